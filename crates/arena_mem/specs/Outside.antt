@@ -1,0 +1,28 @@
+-- What the files and the sinks that a program is handed tell of themselves.
+use Rattle.std.specs.Prelude.{◌≡◌, ◌+◌, ◌-◌, ◌^◌, ◌≤◌, ℕ, List, Option, None, Some, IsSome, Result, OnErr, OnOk, min, ⊤}
+use Rattle.std.specs.Ordering.{nat_cmp}
+use Rattle.std.specs.Cmp.Lexicographic.{slice_cmp}
+use Rattle.std.specs.FinMap as map
+use Rattle.arena_mem.specs.declared.outside.Failed.{Failed}
+
+-- the files by their names, both as bytes
+abbrev pub NamedFiles : Type 0
+NamedFiles = map.FinMap (slice_cmp nat_cmp) (List ℕ)
+
+-- one more than before, or the end of what a u64 counts
+abbrev pub Rose : ℕ → ℕ → Type 0
+Rose before now = min (before + 1) (2 ^ 64 - 1) ≤ now
+
+-- a count of faults never falls, and `Failed` is answered only where it rose
+pub record HasCause {T : Type 0} (before now : ℕ) (result : Result T Failed) : Type 0 where
+  pub never_falls : before ≤ now
+  pub failed : OnErr result (Rose before now)
+
+-- the file of that name is there, and all of it is left to be read
+abbrev pub Opens : Option NamedFiles → List ℕ → Option (List ℕ) → Type 0
+Opens None name left = ⊤
+Opens (Some files) name left = IsSome (map.get files name) × (left ≡ map.get files name)
+
+-- the blamed name: after a failed call the one that stood picked, else the one from before
+abbrev pub Blames : {T : Type 0} → Result T Failed → Option (List ℕ) → Option (List ℕ) → Option (List ℕ) → Type 0
+Blames result picked before now = OnErr result (now ≡ picked) × OnOk result (now ≡ before)

@@ -1,0 +1,15 @@
+//! What the layers above see of memory, files and sinks: the names of places, and three traits.
+//!
+//! It stands between the arenas, which implement `Memory`, and the messages, which are generic over it. Its
+//! contract: a `Memory` is a finite map from live places and live buffers to their bytes; `Files` and `Sink`
+//! answer a fault only where their own count of faults rose.
+#![tactic(auto)]
+
+mod memory;
+mod outside;
+mod place;
+
+pub use memory::{MemFault, Memory};
+pub use no_memory::NoMemory;
+pub use outside::{Failed, Files, Sink};
+pub use place::{Buffer, Place};

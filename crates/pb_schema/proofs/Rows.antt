@@ -1,0 +1,75 @@
+-- Worked examples, computed by the definitions.
+use Rattle.std.proofs.Common.{◌≡◌, ◌-◌, ◌^◌, ℕ, List, [], ◌∷◌, ◌++◌, Option, None, Some, Result, Ok, Err, refl}
+use Rattle.std.specs.Prelude.{map}
+use Rattle.pb_schema.specs.Varint.{varint_at}
+use Rattle.pb_schema.specs.Frames.{frames_of}
+use Rattle.pb_schema.specs.Records.{values_of}
+use Rattle.pb_schema.specs.Tree.{Tree, tick, Nothing, One}
+use Rattle.pb_schema.specs.Decode.{tree_of}
+use Rattle.pb_schema.specs.Text.{varint_of, text_of, framed}
+
+one_hundred_and_fifty : varint_at 10 (150 ∷ 1 ∷ 8 ∷ []) ≡ Some (150, 2)
+one_hundred_and_fifty = refl
+
+a_long_spelling : varint_at 5 (130 ∷ 0 ∷ 8 ∷ 5 ∷ []) ≡ Some (2, 2)
+a_long_spelling = refl
+
+no_end : varint_at 10 (128 ∷ []) ≡ None
+no_end = refl
+
+too_long : varint_at 5 (128 ∷ 128 ∷ 128 ∷ 128 ∷ 128 ∷ 0 ∷ []) ≡ None
+too_long = refl
+
+all_ones : List ℕ
+all_ones = 255 ∷ 255 ∷ 255 ∷ 255 ∷ 255 ∷ 255 ∷ 255 ∷ 255 ∷ 255 ∷ 1 ∷ []
+
+the_greatest : varint_at 10 (255 ∷ 255 ∷ 255 ∷ 255 ∷ 255 ∷ 255 ∷ 255 ∷ 255 ∷ 255 ∷ 1 ∷ []) ≡ Some (2 ^ 64 - 1, 10)
+the_greatest = refl
+
+bits_past_the_last : varint_at 10 (255 ∷ 255 ∷ 255 ∷ 255 ∷ 255 ∷ 255 ∷ 255 ∷ 255 ∷ 255 ∷ 127 ∷ []) ≡ Some (2 ^ 64 - 1, 10)
+bits_past_the_last = refl
+
+one_frame : frames_of (3 ∷ 8 ∷ 150 ∷ 1 ∷ []) ≡ Ok ((8 ∷ 150 ∷ 1 ∷ []) ∷ [])
+one_frame = refl
+
+no_frame : frames_of [] ≡ Ok []
+no_frame = refl
+
+an_empty_frame : frames_of (0 ∷ []) ≡ Ok ([] ∷ [])
+an_empty_frame = refl
+
+a_cut_frame : frames_of (5 ∷ 8 ∷ 1 ∷ []) ≡ Err 0
+a_cut_frame = refl
+
+a_cut_second_frame : frames_of (2 ∷ 8 ∷ 1 ∷ 2 ∷ 8 ∷ []) ≡ Err 1
+a_cut_second_frame = refl
+
+a_long_prefix : frames_of (130 ∷ 0 ∷ 8 ∷ 5 ∷ 0 ∷ []) ≡ Ok ((8 ∷ 5 ∷ []) ∷ [] ∷ [])
+a_long_prefix = refl
+
+two_values : values_of 1 (8 ∷ 1 ∷ 8 ∷ 150 ∷ 1 ∷ []) ≡ Some (1 ∷ 150 ∷ [])
+two_values = refl
+
+another_wire_type : values_of 1 (13 ∷ 1 ∷ 2 ∷ 3 ∷ 4 ∷ []) ≡ None
+another_wire_type = refl
+
+a_group : values_of 1 (19 ∷ 8 ∷ 1 ∷ 20 ∷ []) ≡ None
+a_group = refl
+
+a_long_tag : values_of 1 (136 ∷ 0 ∷ 1 ∷ []) ≡ Some (1 ∷ [])
+a_long_tag = refl
+
+the_last_record_wins : tree_of (8 ∷ 1 ∷ 8 ∷ 150 ∷ 1 ∷ []) ≡ Some (record { value = One 150 })
+the_last_record_wins = refl
+
+a_default_is_nothing : tree_of (8 ∷ 5 ∷ 8 ∷ 0 ∷ []) ≡ Some (record { value = Nothing })
+a_default_is_nothing = refl
+
+written_again : framed (text_of (tick 150)) ≡ 3 ∷ 8 ∷ 150 ∷ 1 ∷ []
+written_again = refl
+
+a_default_is_not_written : framed (text_of (tick 0)) ≡ 0 ∷ []
+a_default_is_not_written = refl
+
+ten_bytes : framed (text_of (tick (2 ^ 64 - 1))) ≡ 11 ∷ 8 ∷ 255 ∷ 255 ∷ 255 ∷ 255 ∷ 255 ∷ 255 ∷ 255 ∷ 255 ∷ 255 ∷ 1 ∷ []
+ten_bytes = refl

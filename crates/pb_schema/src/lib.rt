@@ -1,0 +1,6 @@
+//! The definitions of the wire format: what bytes mean, and which bytes are written for a tree.
+//!
+//! It stands at the bottom, beside the code: the contracts of the layers above cite its `specs/`, and its
+//! functions state laws over them. Its contract: varints, frames and records have at most one reading, and the
+//! function that computes it finds it exactly where there is one.
+#![tactic(auto)]

@@ -1,0 +1,5 @@
+//! One caller's arena: it places messages and keeps long byte strings, and gives all up together.
+//!
+//! It stands on `arena_mem`, whose trait `Memory` it implements, and the program's arena is made of it. Its
+//! contract: it is a finite map from places and buffers to bytes, and no two of its places share a byte.
+#![tactic(auto)]
