@@ -1,12 +1,11 @@
 -- Worked examples, computed by the definitions.
-use Rattle.std.proofs.Common.{◌≡◌, ◌-◌, ◌^◌, ℕ, List, [], ◌∷◌, ◌++◌, Option, None, Some, Result, Ok, Err, refl}
-use Rattle.std.specs.Prelude.{map}
+use Rattle.std.proofs.Common.{◌≡◌, ◌-◌, ◌^◌, ℕ, List, [], ◌∷◌, None, Some, Ok, Err, refl}
 use Rattle.pb_schema.specs.Varint.{varint_at}
 use Rattle.pb_schema.specs.Frames.{frames_of}
 use Rattle.pb_schema.specs.Records.{values_of}
-use Rattle.pb_schema.specs.Tree.{Tree, tick, Nothing, One}
+use Rattle.pb_schema.specs.Tree.{tick, Nothing, One}
 use Rattle.pb_schema.specs.Decode.{tree_of}
-use Rattle.pb_schema.specs.Text.{varint_of, text_of, framed}
+use Rattle.pb_schema.specs.Text.{text_of, framed}
 
 one_hundred_and_fifty : varint_at 10 (150 ∷ 1 ∷ 8 ∷ []) ≡ Some (150, 2)
 one_hundred_and_fifty = refl
