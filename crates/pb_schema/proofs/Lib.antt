@@ -1,2 +1,6 @@
 pub mod Steps
+pub mod VarintLaws
+pub mod FrameLaws
+pub mod RecordLaws
+pub mod TextLaws
 mod Rows

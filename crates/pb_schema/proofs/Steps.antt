@@ -11,7 +11,7 @@ use Rattle.pb_schema.specs.Decode.{last_or_zero, tree_of}
 use Rattle.pb_schema.specs.Text.{groups, varint_of, field_text, text_of, framed}
 
 -- the value that was mapped
-option_map_some : {A B P : Type 0} (f : A → B) (o : Option A) (y : B) → option_map f o ≡ Some y → ((x : A) → o ≡ Some x → f x ≡ y → P) → P
+pub option_map_some : {A B P : Type 0} (f : A → B) (o : Option A) (y : B) → option_map f o ≡ Some y → ((x : A) → o ≡ Some x → f x ≡ y → P) → P
 option_map_some f None y e k = absurd (none-some y e)
 option_map_some f (Some x) y e k = k x refl (same_Some (f x) y e)
 
@@ -19,11 +19,11 @@ some_where : {A : Type 0} (b : Bool) (o : Option A) (y : A) → cond b o None �
 some_where true o y e = (refl, e)
 some_where false o y e = absurd (none-some y e)
 
-option_map-map : {A B C : Type 0} (f : A → B) (g : B → C) (o : Option A) → option_map g (option_map f o) ≡ option_map (λ x. g (f x)) o
+pub option_map-map : {A B C : Type 0} (f : A → B) (g : B → C) (o : Option A) → option_map g (option_map f o) ≡ option_map (λ x. g (f x)) o
 option_map-map f g None = refl
 option_map-map f g (Some x) = refl
 
-option_map_same : {A B : Type 0} (f g : A → B) (o : Option A) → ((x : A) → f x ≡ g x) → option_map f o ≡ option_map g o
+pub option_map_same : {A B : Type 0} (f g : A → B) (o : Option A) → ((x : A) → f x ≡ g x) → option_map f o ≡ option_map g o
 option_map_same f g None h = refl
 option_map_same f g (Some x) h = ap Some (h x)
 
@@ -120,7 +120,7 @@ seven_bits_more s i l =
     ∙ (seven_bits_push (take i s) (get_or s i 0)
     ∙ ap (λ n. seven_bits (take i s) + get_or s i 0 % 128 * 2 ^ (7 * n)) (length-take-le i s (omega arith)))
 
-seven_bits_below : (s : List ℕ) → seven_bits s < 2 ^ (7 * length s)
+pub seven_bits_below : (s : List ℕ) → seven_bits s < 2 ^ (7 * length s)
 seven_bits_below [] = omega arith
 seven_bits_below (a ∷ s) =
     let longer : 7 * suc (length s) ≡ 7 + 7 * length s = omega arith in
