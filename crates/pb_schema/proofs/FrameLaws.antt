@@ -1,11 +1,11 @@
 -- Laws of frames: one list of payloads, found exactly, and the cut index.
-use Rattle.std.proofs.Common.{◌≡◌, ◌≢◌, ◌⊎◌, ℕ, zero, suc, ◌+◌, ◌-◌, ◌^◌, ◌<◌, ◌≤◌, List, [], ◌∷◌, ◌++◌, length, take, drop, Option, None, Some, Result, Ok, Err, refl, sym, ap, ◌∙◌, subst, inl, inr, ⊎_elim, arith, length-append, length-drop, length-take-le, take-append-drop, drop-drop, append_assoc, append-nil, is_ok}
+use Rattle.std.proofs.Common.{◌≡◌, ◌≢◌, ◌⊎◌, ℕ, zero, suc, ◌+◌, ◌^◌, ◌<◌, ◌≤◌, List, [], ◌∷◌, ◌++◌, length, take, drop, Option, None, Some, Result, Ok, Err, refl, sym, ap, ◌∙◌, subst, inl, inr, ⊎_elim, arith, length-append, length-drop, length-take-le, take-append-drop, drop-drop, append_assoc, append-nil, is_ok}
 use Rattle.std.proofs.lemmas.List.{take_at, drop_at}
-use Rattle.std.proofs.lemmas.Option.{none-some, same_Some}
+use Rattle.std.proofs.lemmas.Option.{none-some}
 use Rattle.std.proofs.lemmas.Bool.{false≢true}
 use Rattle.pb_schema.specs.Varint.{Varint, varint_at, tag_bytes}
-use Rattle.pb_schema.specs.Frames.{Frames, frame_at, behind, frames_from, frames_of}
-use Rattle.pb_schema.proofs.Steps.{FrameParts, frame_at_parts, frame_at_whole, frames_more, frames_cut}
+use Rattle.pb_schema.specs.Frames.{Frames, frame_at, behind, frames_of}
+use Rattle.pb_schema.proofs.Steps.{frame_at_parts, frame_at_whole, frames_more, frames_cut}
 use Rattle.pb_schema.proofs.VarintLaws.{varint_at_front, varint_at_found, same_cons}
 
 pub cases_option : {A : Type 0} (o : Option A) → (o ≡ None) ⊎ ((x : A) × (o ≡ Some x))
@@ -49,8 +49,8 @@ frame_found s payload n e =
     record {
       prefix = take parts.prefix_bytes s;
       cut =
-        cut_twice s parts.prefix_bytes parts.len
-        ∙ ap (λ r. take parts.prefix_bytes s ++ r) (ap (λ r. r ++ drop (parts.prefix_bytes + parts.len) s) (sym parts.payload_is) ∙ ap (λ k. payload ++ drop k s) (sym parts.bytes));
+          cut_twice s parts.prefix_bytes parts.len
+          ∙ ap (λ r. take parts.prefix_bytes s ++ r) (ap (λ r. r ++ drop (parts.prefix_bytes + parts.len) s) (sym parts.payload_is) ∙ ap (λ k. payload ++ drop k s) (sym parts.bytes));
       tells = subst (Varint (take parts.prefix_bytes s) tag_bytes) (sym size) found.1;
       short = omega (arith, size, parts.short);
     }
@@ -60,8 +60,8 @@ frames_of_more : (s payload : List ℕ) (n : ℕ) → (s ≢ []) → frame_at s 
 frames_of_more [] payload n ne e = absurd (ne refl)
 frames_of_more (b ∷ s) payload n ne e = frames_more (b ∷ s) 0 payload n (omega arith) e ∙ ap (λ k. behind payload (frames_of (drop k (b ∷ s)))) zeroth
   where
-  zeroth : 0 + n ≡ n
-  zeroth = omega arith
+    zeroth : 0 + n ≡ n
+    zeroth = omega arith
 
 frames_of_none : (s : List ℕ) → (s ≢ []) → frame_at s ≡ None → frames_of s ≡ Err 0
 frames_of_none [] ne e = absurd (ne refl)
@@ -97,11 +97,11 @@ frames_of_after s rest (payload ∷ payloads) p =
     let prefix = p.0 in
     let tail = p.1 in
     let whole : s ++ rest ≡ prefix ++ (payload ++ (tail ++ rest)) =
-      ap (λ x. x ++ rest) p.2 ∙ (append_assoc prefix (payload ++ tail) rest ∙ ap (λ x. prefix ++ x) (append_assoc payload tail rest)) in
+    ap (λ x. x ++ rest) p.2 ∙ (append_assoc prefix (payload ++ tail) rest ∙ ap (λ x. prefix ++ x) (append_assoc payload tail rest)) in
     frames_of_frame (s ++ rest) payload (length prefix + length payload)
-      (not_empty (s ++ rest) prefix payload (tail ++ rest) whole p.3)
-      (frame_at_front (s ++ rest) prefix payload (tail ++ rest) whole p.3 p.4)
-      (tail ++ rest) (ap (drop (length prefix + length payload)) whole ∙ drop_two prefix payload (tail ++ rest))
+    (not_empty (s ++ rest) prefix payload (tail ++ rest) whole p.3)
+    (frame_at_front (s ++ rest) prefix payload (tail ++ rest) whole p.3 p.4)
+    (tail ++ rest) (ap (drop (length prefix + length payload)) whole ∙ drop_two prefix payload (tail ++ rest))
     ∙ ap (behind payload) (frames_of_after tail rest payloads p.5)
 
 -- the payloads of frames are found
@@ -125,7 +125,7 @@ behind_err : (payload : List ℕ) (r : Result (List (List ℕ)) ℕ) (n : ℕ) �
 behind_err payload (Ok rest) n e = absurd (err-ok n (payload ∷ rest) (sym e))
 behind_err payload (Err cut) n e = (cut, same_Err e, refl)
 
-not_nil : {A : Type 0} (a : A) (s : List A) → (a ∷ s) ≢ []
+pub not_nil : {A : Type 0} (a : A) (s : List A) → (a ∷ s) ≢ []
 not_nil a s e = absurd (omega (arith, ap length e))
 
 -- what stands at the front of bytes
@@ -155,10 +155,10 @@ frames_found (payload ∷ payloads) (b ∷ s) e =
     ⊎_elim
     (λ none. absurd (err-ok 0 (payload ∷ payloads) (sym none.1 ∙ e)))
     (λ front.
-      let there = behind_ok front.payload (frames_of (drop front.n (b ∷ s))) (payload ∷ payloads) (sym front.more ∙ e) in
-      let same = same_cons front.payload payload there.0 payloads there.1 in
-      let found : FrameFound (b ∷ s) payload front.n = subst (λ x. FrameFound (b ∷ s) x front.n) same.0 front.found in
-      (found.prefix, drop front.n (b ∷ s), found.cut, found.tells, found.short, frames_found payloads (drop front.n (b ∷ s)) (there.2 ∙ ap Ok same.1)))
+    let there = behind_ok front.payload (frames_of (drop front.n (b ∷ s))) (payload ∷ payloads) (sym front.more ∙ e) in
+    let same = same_cons front.payload payload there.0 payloads there.1 in
+    let found : FrameFound (b ∷ s) payload front.n = subst (λ x. FrameFound (b ∷ s) x front.n) same.0 front.found in
+    (found.prefix, drop front.n (b ∷ s), found.cut, found.tells, found.short, frames_found payloads (drop front.n (b ∷ s)) (there.2 ∙ ap Ok same.1)))
     (front_cases (b ∷ s) (not_nil b s))
 
 pub one_framing : (s : List ℕ) (ps qs : List (List ℕ)) → Frames s ps → Frames s qs → ps ≡ qs
@@ -175,9 +175,9 @@ cut_behind : (s payload : List ℕ) (k n : ℕ) → FrameFound s payload k → C
 cut_behind s payload k n found c =
     let front = found.prefix ++ (payload ++ c.0) in
     let whole : s ≡ front ++ c.1 =
-      found.cut
-      ∙ (ap (λ x. found.prefix ++ (payload ++ x)) c.3
-      ∙ sym (append_assoc found.prefix (payload ++ c.0) c.1 ∙ ap (λ x. found.prefix ++ x) (append_assoc payload c.0 c.1))) in
+    found.cut
+    ∙ (ap (λ x. found.prefix ++ (payload ++ x)) c.3
+    ∙ sym (append_assoc found.prefix (payload ++ c.0) c.1 ∙ ap (λ x. found.prefix ++ x) (append_assoc payload c.0 c.1))) in
     (front, c.1, payload ∷ c.2, whole, (found.prefix, c.0, refl, found.tells, found.short, c.4), ap suc c.5, c.6, c.7)
 
 pub cut_found : (n : ℕ) (s : List ℕ) → frames_of s ≡ Err n → CutAt s n
@@ -191,18 +191,18 @@ cut_found (suc n) (b ∷ s) e =
     ⊎_elim
     (λ none. absurd (omega (arith, same_Err (sym none.1 ∙ e))))
     (λ front.
-      let there = behind_err front.payload (frames_of (drop front.n (b ∷ s))) (suc n) (sym front.more ∙ e) in
-      let same : there.0 ≡ n = omega (arith, there.1) in
-      cut_behind (b ∷ s) front.payload front.n n front.found (cut_found n (drop front.n (b ∷ s)) (there.2 ∙ ap Err same)))
+    let there = behind_err front.payload (frames_of (drop front.n (b ∷ s))) (suc n) (sym front.more ∙ e) in
+    let same : there.0 ≡ n = omega (arith, there.1) in
+    cut_behind (b ∷ s) front.payload front.n n front.found (cut_found n (drop front.n (b ∷ s)) (there.2 ∙ ap Err same)))
     (front_cases (b ∷ s) (not_nil b s))
 
 pub cut_exact : (n : ℕ) (s : List ℕ) → CutAt s n → frames_of s ≡ Err n
 cut_exact n s c =
     let here : frames_of c.1 ≡ Err 0 =
-      ⊎_elim
-      (λ none. none.1)
-      (λ front. absurd (c.7 front.found.prefix front.payload (drop front.n c.1) front.found.cut front.found.tells front.found.short))
-      (front_cases c.1 c.6) in
+    ⊎_elim
+    (λ none. none.1)
+    (λ front. absurd (c.7 front.found.prefix front.payload (drop front.n c.1) front.found.cut front.found.tells front.found.short))
+    (front_cases c.1 c.6) in
     ap frames_of c.3
     ∙ (frames_of_after c.0 c.1 c.2 c.4
     ∙ (ap (behind_all c.2) here

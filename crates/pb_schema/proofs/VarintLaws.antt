@@ -1,12 +1,12 @@
 -- Laws of varints: one reading, found exactly, and the shortest spelling.
-use Rattle.std.proofs.Common.{◌≡◌, ◌⊎◌, ℕ, zero, suc, ◌+◌, ◌-◌, ◌*◌, ◌/◌, ◌%◌, ◌^◌, ◌<◌, ◌≤◌, List, [], ◌∷◌, ◌++◌, length, take, drop, Option, None, Some, option_map, refl, sym, ap, ◌∙◌, subst, inl, inr, ⊎_elim, arith, length-append, length-take-le, take-append-drop, pow-add, mod-lt, append_assoc}
+use Rattle.std.proofs.Common.{◌≡◌, ℕ, zero, suc, ◌+◌, ◌*◌, ◌/◌, ◌%◌, ◌^◌, ◌<◌, ◌≤◌, List, [], ◌∷◌, ◌++◌, length, take, drop, Some, option_map, refl, sym, ap, ◌∙◌, subst, ⊎_elim, arith, length-take-le, take-append-drop, pow-add}
 use Rattle.std.proofs.lemmas.Bool.{cases_lt}
-use Rattle.std.proofs.lemmas.List.{take_at, drop_at}
+use Rattle.std.proofs.lemmas.List.{take_at}
 use Rattle.std.proofs.lemmas.Option.{none-some, same_Some}
 use Rattle.std.proofs.Math.Nat.{mod-le, mod-eq_of_lt}
-use Rattle.pb_schema.specs.Varint.{IsContinued, Varint, seven_bits, varint_bytes, varint_at, value_bytes}
+use Rattle.pb_schema.specs.Varint.{IsContinued, Varint, seven_bits, varint_bytes, varint_at}
 use Rattle.pb_schema.specs.Text.{groups, varint_of}
-use Rattle.pb_schema.proofs.Steps.{option_map_some, varint_bytes_last, varint_bytes_more, varint_bytes_within, varint_at_parts, groups_last, groups_more, length-groups, seven_bits_below}
+use Rattle.pb_schema.proofs.Steps.{option_map_some, varint_bytes_last, varint_bytes_more, varint_bytes_within, varint_at_parts, groups_last, groups_more, seven_bits_below}
 
 pub same_cons : {A : Type 0} (a b : A) (s t : List A) → a ∷ s ≡ b ∷ t → (a ≡ b) × (s ≡ t)
 same_cons a b s t e = (cc, cc)
@@ -39,8 +39,8 @@ varint_bytes_continued (suc most) (b ∷ s) n e =
     ⊎_elim
     (λ (h : b < 128). subst (λ k. IsContinued (take k (b ∷ s))) (same_Some 1 n (sym (varint_bytes_last most b s h) ∙ e)) h)
     (λ (h : 128 ≤ b).
-      option_map_some suc (varint_bytes most s) n (sym (varint_bytes_more most b s h) ∙ e)
-      λ m was is. subst (λ k. IsContinued (take k (b ∷ s))) is (continued_cons b (take m s) h (varint_bytes_continued most s m was)))
+    option_map_some suc (varint_bytes most s) n (sym (varint_bytes_more most b s h) ∙ e)
+    λ m was is. subst (λ k. IsContinued (take k (b ∷ s))) is (continued_cons b (take m s) h (varint_bytes_continued most s m was)))
     (cases_lt b 128)
 
 -- the front that continues is found
@@ -62,9 +62,9 @@ pub varint_at_found : (most : ℕ) (s : List ℕ) (v n : ℕ) → varint_at most
 varint_at_found most s v n e =
     varint_at_parts most s v n e
     λ was is.
-      let within = varint_bytes_within most s n was in
-      let size = length-take-le n s within.2 in
-      (within.2, record { continued = varint_bytes_continued most s n was; most_bytes = omega (arith, size, within.1); value = is })
+    let within = varint_bytes_within most s n was in
+    let size = length-take-le n s within.2 in
+    (within.2, record { continued = varint_bytes_continued most s n was; most_bytes = omega (arith, size, within.1); value = is })
 
 pub varint_at_exact : (most : ℕ) (s : List ℕ) (v n : ℕ) → (n ≤ length s) × Varint (take n s) most v → varint_at most s ≡ Some (v, n)
 varint_at_exact most s v n p =
@@ -82,9 +82,9 @@ groups_continued (suc more) v h =
     ⊎_elim
     (λ (low : v < 128). subst IsContinued (sym (groups_last (suc more) v low)) low)
     (λ (high : 128 ≤ v).
-      subst IsContinued (sym (groups_more more v high))
-      (continued_cons (v % 128 + 128) (groups more (v / 128)) (omega arith)
-      (groups_continued more (v / 128) (omega (arith, groups_power (suc more))))))
+    subst IsContinued (sym (groups_more more v high))
+    (continued_cons (v % 128 + 128) (groups more (v / 128)) (omega arith)
+    (groups_continued more (v / 128) (omega (arith, groups_power (suc more))))))
     (cases_lt v 128)
 
 seven_bits-groups : (more v : ℕ) → v < 2 ^ (7 * suc more) → seven_bits (groups more v) ≡ v
@@ -93,9 +93,9 @@ seven_bits-groups (suc more) v h =
     ⊎_elim
     (λ (low : v < 128). let one = ap seven_bits (groups_last (suc more) v low) in omega (arith, one))
     (λ (high : 128 ≤ v).
-      let one = ap seven_bits (groups_more more v high) in
-      let rest = seven_bits-groups more (v / 128) (omega (arith, groups_power (suc more))) in
-      omega (arith, one, rest))
+    let one = ap seven_bits (groups_more more v high) in
+    let rest = seven_bits-groups more (v / 128) (omega (arith, groups_power (suc more))) in
+    omega (arith, one, rest))
     (cases_lt v 128)
 
 -- what is written for a number below 2 ^ 64 is a varint of it
@@ -116,9 +116,9 @@ groups_short (suc more) v (suc k) h =
     ⊎_elim
     (λ (low : v < 128). let one = ap length (groups_last (suc more) v low) in omega (arith, one))
     (λ (high : 128 ≤ v).
-      let one = ap length (groups_more more v high) in
-      let rest = groups_short more (v / 128) k (omega (arith, groups_power (suc k))) in
-      omega (arith, one, rest))
+    let one = ap length (groups_more more v high) in
+    let rest = groups_short more (v / 128) k (omega (arith, groups_power (suc k))) in
+    omega (arith, one, rest))
     (cases_lt v 128)
 
 -- no varint of the number has fewer bytes

@@ -4,3 +4,10 @@
 //! functions state laws over them. Its contract: varints, frames and records have at most one reading, and the
 //! function that computes it finds it exactly where there is one.
 #![tactic(auto)]
+
+mod laws;
+
+pub use laws::{
+    one_framing, one_list_of_values, one_varint, shortest_varint, text_is_read_back,
+    trees_are_fitted,
+};

@@ -1,0 +1,48 @@
+//! Laws of the definitions in `specs/`, each the contract of a function that does nothing.
+ghost use Rattle.std.specs.Prelude.{◌≡◌, ◌≢◌, ◌↔◌, ℕ, ◌+◌, ◌^◌, ◌<◌, ◌≤◌, List, [], ◌++◌, length, take, Some, Ok, Err, All, flat_map};
+ghost use Rattle.pb_schema.specs.Varint.{Varint, varint_at, tag_bytes, value_bytes};
+ghost use Rattle.pb_schema.specs.Frames.{Frames, frames_of};
+ghost use Rattle.pb_schema.specs.Records.{VarintRecords, values_of};
+ghost use Rattle.pb_schema.specs.Tree.{Tree, Fitted};
+ghost use Rattle.pb_schema.specs.Decode.{tree_of};
+ghost use Rattle.pb_schema.specs.Text.{varint_of, text_of, framed};
+
+/// No varint begins another, so the same bytes begin with one varint of one value at most, and `varint_at` finds
+/// it exactly where there is one.
+pub fn one_varint()
+    ensures only { (s t x y : List ℕ) (most v w : ℕ) → Varint s most v → Varint t most w → s ++ x ≡ t ++ y → (s ≡ t) × (v ≡ w) }
+    ensures exact { (most : ℕ) (s : List ℕ) (v n : ℕ) → (varint_at most s ≡ Some (v, n)) ↔ ((n ≤ length s) × Varint (take n s) most v) }
+{}
+
+/// The same bytes are the frames of one list of payloads at most, and `frames_of` finds it exactly where there is
+/// one. Elsewhere it gives the number of whole frames before the first place where none stands.
+pub fn one_framing()
+    ensures only { (s : List ℕ) (ps qs : List (List ℕ)) → Frames s ps → Frames s qs → ps ≡ qs }
+    ensures exact { (s : List ℕ) (ps : List (List ℕ)) → (frames_of s ≡ Ok ps) ↔ Frames s ps }
+    ensures cut { (s : List ℕ) (n : ℕ) → (frames_of s ≡ Err n) ↔ ((front : List ℕ) × (rest : List ℕ) × (payloads : List (List ℕ)) × (s ≡ front ++ rest) × Frames front payloads × (length payloads ≡ n) × (rest ≢ []) × ((prefix payload tail : List ℕ) → rest ≡ prefix ++ (payload ++ tail) → Varint prefix tag_bytes (length payload) → length payload < 2 ^ 31 → ⊥)) }
+{}
+
+/// The same bytes are the records of one list of values at most, and `values_of` finds it exactly where there is
+/// one.
+pub fn one_list_of_values()
+    ensures only { (number : ℕ) (s vs ws : List ℕ) → VarintRecords number s vs → VarintRecords number s ws → vs ≡ ws }
+    ensures exact { (number : ℕ) (s vs : List ℕ) → (values_of number s ≡ Some vs) ↔ VarintRecords number s vs }
+{}
+
+/// The number in a tree that was read is below 2^64, and isn't the default.
+pub fn trees_are_fitted()
+    ensures { (s : List ℕ) (t : Tree) → tree_of s ≡ Some t → Fitted t }
+{}
+
+/// What is written for a number of 64 bits is a varint of it, and no varint of it has fewer bytes.
+pub fn shortest_varint()
+    ensures spells { (v : ℕ) → v < 2 ^ 64 → Varint (varint_of v) value_bytes v }
+    ensures shortest { (s : List ℕ) (v : ℕ) → Varint s value_bytes v → length (varint_of v) ≤ length s }
+{}
+
+/// What is written for a tree is read as that tree, and frames that are written are read as their payloads, where
+/// each is shorter than 2^31 bytes.
+pub fn text_is_read_back()
+    ensures text { (t : Tree) → Fitted t → tree_of (text_of t) ≡ Some t }
+    ensures frames { (payloads : List (List ℕ)) → All (λ payload. length payload < 2 ^ 31) payloads → frames_of (flat_map framed payloads) ≡ Ok payloads }
+{}
