@@ -1,7 +1,7 @@
 -- Worked examples, computed by the definitions.
 use Rattle.std.proofs.Common.{◌≡◌, ◌-◌, ◌^◌, ℕ, List, [], ◌∷◌, None, Some, Ok, Err, refl}
 use Rattle.pb_schema.specs.Varint.{varint_at}
-use Rattle.pb_schema.specs.Frames.{frames_of}
+use Rattle.pb_schema.specs.Frames.{frame_at, frames_of}
 use Rattle.pb_schema.specs.Records.{values_of}
 use Rattle.pb_schema.specs.Tree.{tick, Nothing, One}
 use Rattle.pb_schema.specs.Decode.{tree_of}
@@ -19,10 +19,10 @@ no_end = refl
 too_long : varint_at 5 (128 ∷ 128 ∷ 128 ∷ 128 ∷ 128 ∷ 0 ∷ []) ≡ None
 too_long = refl
 
-all_ones : List ℕ
+abbrev all_ones : List ℕ
 all_ones = 255 ∷ 255 ∷ 255 ∷ 255 ∷ 255 ∷ 255 ∷ 255 ∷ 255 ∷ 255 ∷ 1 ∷ []
 
-the_greatest : varint_at 10 (255 ∷ 255 ∷ 255 ∷ 255 ∷ 255 ∷ 255 ∷ 255 ∷ 255 ∷ 255 ∷ 1 ∷ []) ≡ Some (2 ^ 64 - 1, 10)
+the_greatest : varint_at 10 all_ones ≡ Some (2 ^ 64 - 1, 10)
 the_greatest = refl
 
 bits_past_the_last : varint_at 10 (255 ∷ 255 ∷ 255 ∷ 255 ∷ 255 ∷ 255 ∷ 255 ∷ 255 ∷ 255 ∷ 127 ∷ []) ≡ Some (2 ^ 64 - 1, 10)
@@ -72,3 +72,76 @@ a_default_is_not_written = refl
 
 ten_bytes : framed (text_of (tick (2 ^ 64 - 1))) ≡ 11 ∷ 8 ∷ 255 ∷ 255 ∷ 255 ∷ 255 ∷ 255 ∷ 255 ∷ 255 ∷ 255 ∷ 255 ∷ 1 ∷ []
 ten_bytes = refl
+
+six_bytes : frames_of (130 ∷ 128 ∷ 128 ∷ 128 ∷ 128 ∷ 0 ∷ 8 ∷ 5 ∷ []) ≡ Err 0
+six_bytes = refl
+
+five_bytes_of_zero : frames_of (128 ∷ 128 ∷ 128 ∷ 128 ∷ 0 ∷ []) ≡ Ok ([] ∷ [])
+five_bytes_of_zero = refl
+
+too_great_a_length : frame_at (128 ∷ 128 ∷ 128 ∷ 128 ∷ 8 ∷ []) ≡ None
+too_great_a_length = refl
+
+-- 2 ^ 31 - 1 is a length, whose payload isn't there
+the_greatest_length : frame_at (255 ∷ 255 ∷ 255 ∷ 255 ∷ 7 ∷ 0 ∷ []) ≡ None
+the_greatest_length = refl
+
+the_framed_greatest : frames_of (11 ∷ 8 ∷ all_ones) ≡ Ok ((8 ∷ all_ones) ∷ [])
+the_framed_greatest = refl
+
+its_tree : tree_of (8 ∷ all_ones) ≡ Some (record { value = One (2 ^ 64 - 1) })
+its_tree = refl
+
+-- a prefix of two bytes where one is enough
+a_frame_with_a_long_prefix : frames_of (130 ∷ 0 ∷ 8 ∷ 5 ∷ []) ≡ Ok ((8 ∷ 5 ∷ []) ∷ [])
+a_frame_with_a_long_prefix = refl
+
+the_framed_last : frames_of (5 ∷ 8 ∷ 1 ∷ 8 ∷ 150 ∷ 1 ∷ []) ≡ Ok ((8 ∷ 1 ∷ 8 ∷ 150 ∷ 1 ∷ []) ∷ [])
+the_framed_last = refl
+
+another_field : tree_of (8 ∷ 7 ∷ 18 ∷ 0 ∷ []) ≡ None
+another_field = refl
+
+a_tag_of_five_bytes : tree_of (136 ∷ 128 ∷ 128 ∷ 128 ∷ 0 ∷ 5 ∷ []) ≡ Some (record { value = One 5 })
+a_tag_of_five_bytes = refl
+
+a_tag_of_six_bytes : tree_of (136 ∷ 128 ∷ 128 ∷ 128 ∷ 128 ∷ 0 ∷ 5 ∷ []) ≡ None
+a_tag_of_six_bytes = refl
+
+-- the tag's bits past the 32nd count, and no tag has them
+a_tag_of_more_bits : tree_of (136 ∷ 128 ∷ 128 ∷ 128 ∷ 16 ∷ 5 ∷ []) ≡ None
+a_tag_of_more_bits = refl
+
+no_value : tree_of (8 ∷ 5 ∷ 8 ∷ []) ≡ None
+no_value = refl
+
+a_value_without_end : tree_of (8 ∷ 128 ∷ []) ≡ None
+a_value_without_end = refl
+
+a_value_of_eleven_bytes : tree_of (8 ∷ 128 ∷ 128 ∷ 128 ∷ 128 ∷ 128 ∷ 128 ∷ 128 ∷ 128 ∷ 128 ∷ 128 ∷ 0 ∷ []) ≡ None
+a_value_of_eleven_bytes = refl
+
+-- 2 ^ 64 has no bit among the first 64
+no_bit_left : tree_of (8 ∷ 128 ∷ 128 ∷ 128 ∷ 128 ∷ 128 ∷ 128 ∷ 128 ∷ 128 ∷ 128 ∷ 2 ∷ []) ≡ Some (record { value = Nothing })
+no_bit_left = refl
+
+a_long_default : tree_of (8 ∷ 128 ∷ 0 ∷ []) ≡ Some (record { value = Nothing })
+a_long_default = refl
+
+nothing_is_empty : tree_of [] ≡ Some (record { value = Nothing })
+nothing_is_empty = refl
+
+no_such_wire_type : tree_of (15 ∷ 0 ∷ []) ≡ None
+no_such_wire_type = refl
+
+no_such_field : tree_of (0 ∷ 0 ∷ []) ≡ None
+no_such_field = refl
+
+one_byte : framed (text_of (tick 127)) ≡ 2 ∷ 8 ∷ 127 ∷ []
+one_byte = refl
+
+two_bytes : framed (text_of (tick 128)) ≡ 3 ∷ 8 ∷ 128 ∷ 1 ∷ []
+two_bytes = refl
+
+the_highest_bit : framed (text_of (tick (2 ^ 63))) ≡ 11 ∷ 8 ∷ 128 ∷ 128 ∷ 128 ∷ 128 ∷ 128 ∷ 128 ∷ 128 ∷ 128 ∷ 128 ∷ 1 ∷ []
+the_highest_bit = refl
