@@ -1,5 +1,6 @@
 pub mod Steps
 pub mod VarintLaws
+pub mod Places
 pub mod FrameLaws
 pub mod RecordLaws
 pub mod TextLaws

@@ -1,5 +1,6 @@
 -- Steps of a loop that reads or writes the wire format: what a definition says one byte, one frame or one record on.
-use Rattle.std.proofs.Common.{◌≡◌, ℕ, zero, suc, ◌+◌, ◌-◌, ◌*◌, ◌/◌, ◌%◌, ◌^◌, ◌<◌, ◌≤◌, List, [], ◌∷◌, ◌++◌, length, get_or, take, drop, Bool, true, false, cond, Option, None, Some, option_map, option_and_then, Result, Ok, Err, refl, sym, ap, ◌∙◌, ⊎_elim, arith, length-drop, length-take-le, drop-drop, pow-add, ltb, leb, ◌&&◌, eqb}
+use Rattle.std.proofs.Common.{◌≡◌, ℕ, zero, suc, ◌+◌, ◌-◌, ◌*◌, ◌/◌, ◌%◌, ◌^◌, ◌<◌, ◌≤◌, List, [], ◌∷◌, ◌++◌, length, get_or, take, drop, Bool, true, false, cond, Option, None, Some, option_map, option_and_then, Result, Ok, Err, refl, sym, ap, ◌∙◌, ⊎_elim, arith, length-drop, length-take-le, drop-drop, pow-add, ltb, leb, ◌&&◌, eqb, pow_mono}
+use Rattle.std.proofs.Math.Nat.{add-mod}
 use Rattle.std.proofs.lemmas.Bool.{cases_lt, lt-ltb, le-ltb, le-leb, lt-leb, eq-eqb, ne_eqb, cond-true, cond-false, and_from, and_left, and_right, and_parts, ltb-true, leb-true, eqb-true}
 use Rattle.std.proofs.lemmas.Option.{none-some, same_Some, option_and_then_some, cond_some}
 use Rattle.std.proofs.lemmas.List.{at_drop_more, at_drop_all, drop_more, take_more}
@@ -130,6 +131,18 @@ seven_bits_below (a ∷ s) =
 -- i bytes spell a number of 7 i bits
 pub seven_bits_bound : (s : List ℕ) (i : ℕ) → i ≤ length s → seven_bits (take i s) < 2 ^ (7 * i)
 seven_bits_bound s i l = let same = length-take-le i s l in rw same at (seven_bits_below (take i s))
+
+-- the same of a loop that keeps 64 bits
+pub seven_bits_more_wraps : (s : List ℕ) (i : ℕ) → i < length s → seven_bits (take (i + 1) s) % 2 ^ 64 ≡ (seven_bits (take i s) % 2 ^ 64 + get_or s i 0 % 128 * 2 ^ (7 * i) % 2 ^ 64) % 2 ^ 64
+seven_bits_more_wraps s i l = ap (λ n. n % 2 ^ 64) (seven_bits_more s i l) ∙ add-mod (seven_bits (take i s)) (get_or s i 0 % 128 * 2 ^ (7 * i)) (2 ^ 64)
+
+-- nine bytes spell 63 bits at most
+pub seven_bits_small : (s : List ℕ) (i : ℕ) → i ≤ length s → i ≤ 9 → seven_bits (take i s) < 2 ^ 63
+seven_bits_small s i l few = omega (arith, seven_bits_bound s i l, pow_mono {i = 7 * i} {j = 63} (omega arith))
+
+-- the tenth byte's lowest bit is the 64th, and the others wrap
+pub tenth_group : (b : ℕ) → b % 128 * 2 ^ 63 % 2 ^ 64 ≡ b % 2 * 2 ^ 63
+tenth_group b = omega arith
 
 -- FRAMES
 

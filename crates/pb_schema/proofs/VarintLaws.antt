@@ -73,7 +73,7 @@ varint_at_exact most s v n p =
     ∙ ap (λ k. Some (v, k)) (length-take-le n s p.0))
 
 -- the bits of one group more
-groups_power : (k : ℕ) → 2 ^ (7 * suc k) ≡ 128 * 2 ^ (7 * k)
+pub groups_power : (k : ℕ) → 2 ^ (7 * suc k) ≡ 128 * 2 ^ (7 * k)
 groups_power k = let longer : 7 * suc k ≡ 7 + 7 * k = omega arith in ap (λ n. 2 ^ n) longer ∙ pow-add 2 7 (7 * k)
 
 groups_continued : (more v : ℕ) → v < 2 ^ (7 * suc more) → IsContinued (groups more v)

@@ -1,11 +1,18 @@
 //! Laws of the definitions in `specs/`, each the contract of a function that does nothing.
-ghost use Rattle.std.specs.Prelude.{◌≡◌, ◌≢◌, ◌↔◌, ℕ, ◌+◌, ◌^◌, ◌<◌, ◌≤◌, List, [], ◌++◌, length, take, Some, Ok, Err, All, flat_map};
+ghost use Rattle.std.specs.Prelude.{◌≡◌, ◌≢◌, ◌↔◌, ℕ, ◌+◌, ◌-◌, ◌*◌, ◌%◌, ◌^◌, ◌<◌, ◌≤◌, List, [], ◌++◌, length, take, Some, Ok, Err, All, flat_map, map, sum, slice_index};
+ghost use Rattle.std.specs.List.{range_with_len};
 ghost use Rattle.pb_schema.specs.Varint.{Varint, varint_at, tag_bytes, value_bytes};
 ghost use Rattle.pb_schema.specs.Frames.{Frames, frames_of};
 ghost use Rattle.pb_schema.specs.Records.{VarintRecords, values_of};
 ghost use Rattle.pb_schema.specs.Tree.{Tree, Fitted};
 ghost use Rattle.pb_schema.specs.Decode.{tree_of};
 ghost use Rattle.pb_schema.specs.Text.{varint_of, text_of, framed};
+
+/// A varint has one to `most` bytes, each but the last at least 128 and the last below 128, and its value is the sum
+/// of the low seven bits of each byte times 128 to the byte's place, modulo 2^64.
+pub fn varint_by_places()
+    ensures { (s : List ℕ) (most v : ℕ) → Varint s most v ↔ ((0 < length s) × (length s ≤ most) × ((i : ℕ) → i + 1 < length s → 128 ≤ slice_index s i) × (slice_index s (length s - 1) < 128) × (v ≡ sum (map (λ i. slice_index s i % 128 * 128 ^ i) (range_with_len 0 (length s))) % 2 ^ 64)) }
+{}
 
 /// No varint begins another, so the same bytes begin with one varint of one value at most, and `varint_at` finds
 /// it exactly where there is one.
