@@ -14,7 +14,7 @@ use Rattle.arena_mem.specs.declared.place.Place.{Place}
 use Rattle.arena_mem.specs.declared.place.Buffer.{Buffer}
 use Rattle.arena_mem.specs.Places.{place_cmp, buffer_cmp, Places, Buffers, IsLive, IsKept, KeepsRest, KeepsBuffers, Apart, round8, splice, written, replaced, AddsAtMostABlock}
 use Rattle.serial_arena.specs.Serial.{Placement, SerialState, place_in, numbered, places_of, buffers_of, blocks_of, next_placement, with_place, rewritten, with_bytes, with_kept, IsBlock, IsSerial}
-use Rattle.serial_arena.proofs.Numbered.{IsNumbered, altered, get_inserted, get_beside, keeps_rest, get_next, from_entries_next, stands, one_key, from_entries-altered, len_all}
+use Rattle.serial_arena.proofs.Numbered.{IsNumbered, altered, get_inserted, get_beside, stays_there, keeps_rest, get_next, from_entries_next, stands, one_key, from_entries-altered, len_all}
 
 -- ---- the orders
 places_total : IsTotalOrder place_cmp
@@ -65,6 +65,9 @@ pub from_IsSome : {X : Type 0} (P : Option X → Type 0) (r : Option X) → IsSo
 from_IsSome P None h f = absurd (false≢true h)
 from_IsSome P (Some x) h f = f x refl
 
+pub lives : (places : Places) (p : Place) (v : List ℕ) → fin.get places p ≡ Some v → IsLive places p
+lives places p v is = subst IsSome (sym is) refl
+
 pub blocks_here : (s : SerialState) → blocks_of s s.region ≡ length s.placements
 blocks_here s = ap (λ b. cond b (length s.placements) 0) (test_same s.region)
 
@@ -113,6 +116,10 @@ module _ (s : SerialState) (ok : IsSerial s) where
   pub with_bytes_beside : (p : Place) (start : ℕ) (bytes : List ℕ) → IsLive (places_of s) p → (q : Place) → (q ≡ p → ⊥) → fin.get (places_of (with_bytes s p start bytes)) q ≡ fin.get (places_of s) q
   with_bytes_beside p start bytes live q other = from_IsSome (λ r. fin.get (places_of (with_bytes s p start bytes)) q ≡ fin.get (places_of s) q) _ live
       (λ was is. ap (λ m. fin.get m q) (with_bytes_inserts p start bytes was is) ∙ get_beside places_total exact_places (places_of s) p _ q other)
+
+  pub with_bytes_live : (p : Place) (start : ℕ) (bytes : List ℕ) → IsLive (places_of s) p → (q : Place) → IsLive (places_of s) q → IsLive (places_of (with_bytes s p start bytes)) q
+  with_bytes_live p start bytes live q there = from_IsSome (λ r. IsLive (places_of (with_bytes s p start bytes)) q) _ live
+      (λ was is. subst (λ m. IsLive m q) (sym (with_bytes_inserts p start bytes was is)) (stays_there places_total exact_places (places_of s) p (splice start bytes was) q there))
 
   -- ---- laws
   pub lie_apart : (p q : Place) → IsLive (places_of s) p → IsLive (places_of s) q → (p ≡ q → ⊥) → Apart p q

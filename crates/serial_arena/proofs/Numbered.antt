@@ -1,6 +1,6 @@
 -- Maps made of entries in order, whose keys have their position as a number.
 use Rattle.std.proofs.Common.{◌≡◌, ℕ, zero, suc, ◌+◌, ◌<◌, ◌≤◌, Bool, true, false, cond, List, [], ◌∷◌, ◌++◌, length, get_or, Option, Some, None, Ordering, inl, inr, ⊎_elim, refl, sym, ap, subst, ◌∙◌, arith}
-use Rattle.std.specs.Prelude.{is_some}
+use Rattle.std.specs.Prelude.{IsSome, is_some}
 use Rattle.std.specs.Option.{option_map}
 use Rattle.std.specs.Ordering.{eq_by_cmp, is_eq}
 use Rattle.std.specs.declared.cmp.Ordering.TheVariants.{Less, Equal, Greater}
@@ -25,6 +25,10 @@ is_equal Less h = absurd (false≢true h)
 is_equal Equal h = refl
 is_equal Greater h = absurd (false≢true h)
 
+either : {V : Type 0} (b : Bool) (r : Option V) (v : V) → IsSome r → IsSome (cond b (Some v) r)
+either true r v there = refl
+either false r v there = there
+
 -- ---- one map
 module _ {K V : Type 0} {R : K → K → Ordering} (o : IsTotalOrder R) (same : IsAntisymmetric R) (m : FinMap R V) (k : K) (v : V) where
   pub get_inserted : get (insert m k v) k ≡ Some v
@@ -32,6 +36,10 @@ module _ {K V : Type 0} {R : K → K → Ordering} (o : IsTotalOrder R) (same : 
 
   pub get_beside : (q : K) → (q ≡ k → ⊥) → get (insert m k v) q ≡ get m q
   get_beside q other = get-insert o m k v q ∙ ap (λ b. cond b (Some v) (get m q)) (false_from_ne_true _ (λ h. other (same q k (is_equal _ h))))
+
+  -- what was there still is
+  pub stays_there : (q : K) → IsSome (get m q) → IsSome (get (insert m k v) q)
+  stays_there q there = subst IsSome (sym (get-insert o m k v q)) (either (eq_by_cmp R q k) (get m q) v there)
 
   -- a new key takes nothing away
   pub keeps_rest : get m k ≡ None → (q : K) (was : V) → get m q ≡ Some was → get (insert m k v) q ≡ Some was

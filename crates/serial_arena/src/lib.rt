@@ -8,6 +8,8 @@ mod arena;
 mod blocks;
 mod laws;
 mod memory;
+#[cfg(test)]
+mod tests;
 
 pub use arena::{SerialArena, SerialKey};
 pub use laws::{blocks_hold_places, places_lie_apart};

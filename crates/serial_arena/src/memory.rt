@@ -79,7 +79,8 @@ impl Memory for SerialArena {
         ensures buffers { buffers_of self.new ≡ buffers_of self.old }
         ensures blocks { (region : ℕ) → blocks_of self.new region ≡ blocks_of self.old region }
 
-        // Nothing changes but the bytes of that placement.
+        // What was live still is, and nothing changes but the bytes of that placement.
+        ensures still_live { (q : Place) → IsLive (places_of self.old) q → IsLive (places_of self.new) q }
         ensures wrote { self.new ≡ with_bytes self.old place start bytes.now }
     {
         let at = start_of(&self.starts, place.block) + start as usize;

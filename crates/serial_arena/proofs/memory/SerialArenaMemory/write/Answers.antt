@@ -1,10 +1,10 @@
-use Rattle.std.proofs.Common.{◌≡◌, ◌+◌, ◌<◌, ◌≤◌, length, get_or, take, drop, Some, sym, ap, ◌∙◌, arith}
+use Rattle.std.proofs.Common.{◌≡◌, ◌+◌, ◌<◌, ◌≤◌, length, get_or, take, drop, Some, sym, ap, subst, ◌∙◌, arith}
 use Rattle.std.specs.FinMap as fin
 use Rattle.std.specs.Vec.{with_items}
 use Rattle.std.proofs.lemmas.List.{with_items_is}
-use Rattle.arena_mem.specs.Places.{splice}
+use Rattle.arena_mem.specs.Places.{splice, IsLive}
 use Rattle.serial_arena.specs.Serial.{SerialState, places_of, with_bytes, IsSerial}
-use Rattle.serial_arena.proofs.Names.{with_bytes_here, with_bytes_beside, with_bytes_is}
+use Rattle.serial_arena.proofs.Names.{with_bytes_here, with_bytes_beside, with_bytes_is, with_bytes_live}
 use Rattle.serial_arena.proofs.Rows.{length-splice}
 use Rattle.serial_arena.proofs.States.{lies_there, state_serial, wrote, wrote_well}
 use Rattle.serial_arena.proofs.memory.SerialArenaMemory.write.Goals as goal
@@ -53,3 +53,6 @@ returns-clause-others c q other = ap (λ (s : SerialState). fin.get (places_of s
 
 pub returns-clause-map : goal.returns-clause-map
 returns-clause-map c = ap places_of (returns-clause-wrote c) ∙ with_bytes_is c.args.self.now (serial (goal.at.returns-clause-map c).After-overwrite) c.args.place c.args.start c.args.bytes.now c.requires.live
+
+pub returns-clause-still_live : goal.returns-clause-still_live
+returns-clause-still_live c q there = subst (λ (s : SerialState). IsLive (places_of s) q) (sym (returns-clause-wrote c)) (with_bytes_live c.args.self.now (serial (goal.at.returns-clause-still_live c).After-overwrite) c.args.place c.args.start c.args.bytes.now c.requires.live q there)
