@@ -1,0 +1,4 @@
+pub mod Numbered
+pub mod Names
+pub mod Rows
+pub mod States

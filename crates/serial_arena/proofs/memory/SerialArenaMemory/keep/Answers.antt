@@ -1,0 +1,34 @@
+use Rattle.std.proofs.Common.{◌≡◌, ℕ, List, [], ◌∷◌, length, Some, sym, ap, ◌∙◌}
+use Rattle.std.specs.Prelude.{map}
+use Rattle.std.specs.FinMap as fin
+use Rattle.std.proofs.lemmas.List.{map-append, length-map}
+use Rattle.arena_mem.specs.declared.place.Buffer.{Buffer}
+use Rattle.serial_arena.specs.Serial.{SerialState, buffers_of, with_kept}
+use Rattle.serial_arena.proofs.Names.{next_buffer, next_buffer_is_new, with_kept_inserts, new_buffer_is, with_kept_keeps}
+use Rattle.serial_arena.proofs.States.{kept_more}
+use Rattle.serial_arena.proofs.memory.SerialArenaMemory.keep.Goals as goal
+use Rattle.serial_arena.proofs.memory.SerialArenaMemory.keep.Goals.{In_default}
+
+abbrev answer : In_default → Buffer
+answer c = record { region = c.self.inside.region; number = c.len-number.result }
+
+named : (c : In_default) → answer c ≡ next_buffer c.args.self.now
+named c =
+    let region = ap (λ (s : SerialState). s.region) c.self.view_is in
+    let number : c.len-number.result ≡ length c.args.self.now.kept = c.len-number.ensures ∙ c.self.inside.kept.ok.0 ∙ sym (length-map c.self.inside.kept.items (λ v. v.items)) ∙ ap (λ (s : SerialState). length s.kept) c.self.view_is in
+    λ i. record { region = region i; number = number i }
+
+pub returns-clause-kept : goal.returns-clause-kept
+returns-clause-kept c = kept_more _ _ _ _ _ _ _ c.self.view_is c.self.invariant _ c.args.bytes.items (ap (map (λ v. v.items)) c.in_default.ensures.items ∙ map-append (λ v. v.items) c.self.inside.kept.items (c.args.bytes ∷ []))
+
+pub returns-clause-fresh : goal.returns-clause-fresh
+returns-clause-fresh c = ap (fin.get (buffers_of c.args.self.now)) (named c) ∙ next_buffer_is_new c.args.self.now
+
+pub returns-clause-value : goal.returns-clause-value
+returns-clause-value c = ap (λ (s : SerialState). fin.get (buffers_of s) (answer c)) (returns-clause-kept c) ∙ ap (fin.get (buffers_of (with_kept c.args.self.now c.args.bytes.items))) (named c) ∙ new_buffer_is c.args.self.now c.args.bytes.items
+
+pub returns-clause-map : goal.returns-clause-map
+returns-clause-map c = ap buffers_of (returns-clause-kept c) ∙ with_kept_inserts c.args.self.now c.args.bytes.items ∙ sym (ap (λ b. fin.insert (buffers_of c.args.self.now) b c.args.bytes.items) (named c))
+
+pub returns-clause-rest : goal.returns-clause-rest
+returns-clause-rest c b was is = ap (λ (s : SerialState). fin.get (buffers_of s) b) (returns-clause-kept c) ∙ with_kept_keeps c.args.self.now c.args.bytes.items b was is

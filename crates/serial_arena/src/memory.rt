@@ -1,0 +1,119 @@
+// The arena as a memory.
+ghost use Rattle.std.specs.Prelude.{◌≡◌, ◌+◌, ◌-◌, ◌^◌, ◌≤◌, ℕ, List, None, Some, Err, length, replicate, IfOk, IfErr, OnOk, OnErr};
+ghost use Rattle.std.specs.Option.{option_map};
+ghost use Rattle.std.specs.FinMap as map;
+ghost use Rattle.arena_mem.specs.declared.place.Place.{Place};
+ghost use Rattle.arena_mem.specs.declared.memory.MemFault.TheVariants.{BlocksSpent};
+ghost use Rattle.arena_mem.specs.Places.{round8, splice, written, IsPlaceable, IsLive, IsKept, KeepsRest, KeepsBuffers, AddsAtMostABlock, NamesFullRegion};
+ghost use Rattle.serial_arena.specs.Key.{key_of};
+ghost use Rattle.serial_arena.specs.Serial.{place_in, next_placement, with_place, with_bytes, with_kept, Refuses, places_of, buffers_of, blocks_of};
+
+use crate::arena::{SerialArena, SerialKey};
+use crate::blocks::{add_block, overwrite, part, rounded, start_of};
+use arena_mem::{Buffer, MemFault, Memory, NoMemory, Place};
+
+impl Memory for SerialArena {
+    type Key = SerialKey;
+
+    ghost key = { key_of };
+
+    ghost places = { places_of };
+
+    ghost buffers = { buffers_of };
+
+    ghost blocks = { blocks_of };
+
+    fn place(&mut self, bytes: u32) -> Result<Place, MemFault>
+        requires { IsPlaceable bytes }
+        ensures key { key_of self.new ≡ key_of self.old }
+        ensures fresh { IfOk result (λ p. map.get (places_of self.old) p ≡ None) }
+        ensures len { IfOk result (λ p. p.len ≡ round8 bytes) }
+        ensures zeros { IfOk result (λ p. map.get (places_of self.new) p ≡ Some (replicate p.len 0)) }
+        ensures map { IfOk result (λ p. places_of self.new ≡ map.insert (places_of self.old) p (replicate p.len 0)) }
+        ensures rest { KeepsRest (places_of self.old) (places_of self.new) }
+        ensures buffers { buffers_of self.new ≡ buffers_of self.old }
+        ensures unchanged { OnErr result (places_of self.new ≡ places_of self.old) }
+        ensures blocks { AddsAtMostABlock (blocks_of self.old) (blocks_of self.new) }
+        ensures blocks_unchanged { OnErr result ((region : ℕ) → blocks_of self.new region ≡ blocks_of self.old region) }
+        ensures spent { IfErr result (NamesFullRegion (blocks_of self.new)) }
+
+        // A block of its own at offset 16, under the next number; a refusal leaves the whole arena as it was.
+        ensures name { IfOk result (λ p. p ≡ place_in self.old.region (next_placement self.old bytes)) }
+        ensures placed { OnOk result (self.new ≡ with_place self.old bytes) }
+        ensures same { OnErr result (self.new ≡ self.old) }
+
+        // `BlocksSpent` comes exactly where 2^32 - 1 blocks are there.
+        ensures refusal { IfErr result (Refuses self.old) }
+        ensures full { length self.old.placements ≡ 2 ^ 32 - 1 → result ≡ Err (BlocksSpent self.old.region) }
+    {
+        let block = self.starts.len();
+        if block >= u32::MAX as usize {
+            return Err(MemFault::BlocksSpent {
+                region: self.region,
+            });
+        }
+        let len = rounded(bytes);
+        let Ok(()) = add_block(&mut self.starts, &mut self.row, len) else {
+            return Err(MemFault::NoMemory);
+        };
+        Ok(Place {
+            region: self.region,
+            block: block as u32,
+            offset: 16,
+            len,
+        })
+    }
+
+    fn read(&self, place: Place) -> &[u8] {
+        let start = start_of(&self.starts, place.block);
+        part(&self.row, start, place.len)
+    }
+
+    fn write(&mut self, place: Place, start: u32, bytes: &[u8])
+        requires live { IsLive (places_of self.old) place }
+        requires fits { start + length bytes.now ≤ place.len }
+        ensures key { key_of self.new ≡ key_of self.old }
+        ensures here { map.get (places_of self.new) place ≡ option_map (splice start bytes.now) (map.get (places_of self.old) place) }
+        ensures others { (q : Place) → (q ≡ place → ⊥) → map.get (places_of self.new) q ≡ map.get (places_of self.old) q }
+        ensures map { places_of self.new ≡ written (places_of self.old) place start bytes.now }
+        ensures buffers { buffers_of self.new ≡ buffers_of self.old }
+        ensures blocks { (region : ℕ) → blocks_of self.new region ≡ blocks_of self.old region }
+
+        // What was live still is, and nothing changes but the bytes of that placement.
+        ensures still_live { (q : Place) → IsLive (places_of self.old) q → IsLive (places_of self.new) q }
+        ensures wrote { self.new ≡ with_bytes self.old place start bytes.now }
+    {
+        let at = start_of(&self.starts, place.block) + start as usize;
+        overwrite(&mut self.row, at, bytes);
+    }
+
+    fn keep(&mut self, bytes: Vec<u8>) -> Result<Buffer, (NoMemory, Vec<u8>)>
+        ensures key { key_of self.new ≡ key_of self.old }
+        ensures fresh { IfOk result (λ b. map.get (buffers_of self.old) b ≡ None) }
+        ensures value { IfOk result (λ b. map.get (buffers_of self.new) b ≡ Some bytes.items) }
+        ensures map { IfOk result (λ b. buffers_of self.new ≡ map.insert (buffers_of self.old) b bytes.items) }
+        ensures rest { KeepsBuffers (buffers_of self.old) (buffers_of self.new) }
+        ensures places { places_of self.new ≡ places_of self.old }
+        ensures blocks { (region : ℕ) → blocks_of self.new region ≡ blocks_of self.old region }
+        ensures unchanged { OnErr result (buffers_of self.new ≡ buffers_of self.old) }
+        ensures handed_back { IfErr result (λ e. e.1 ≡ bytes) }
+
+        // The number is the count of byte strings before; a refusal leaves the whole arena as it was.
+        ensures name { IfOk result (λ b. b ≡ record { region = self.old.region; number = length self.old.kept }) }
+        ensures kept { OnOk result (self.new ≡ with_kept self.old bytes.items) }
+        ensures same { OnErr result (self.new ≡ self.old) }
+    {
+        let number = self.kept.len() as u64;
+        if let Err(refused) = self.kept.push(bytes) {
+            return Err((NoMemory, refused.value));
+        }
+        Ok(Buffer {
+            region: self.region,
+            number,
+        })
+    }
+
+    fn kept(&self, buffer: Buffer) -> &[u8] {
+        &self.kept[buffer.number as usize]
+    }
+}
