@@ -1,2 +1,4 @@
 pub mod Places
 pub mod Outside
+pub mod FileNames
+pub mod Calls

@@ -5,10 +5,13 @@
 //! answer a fault only where their own count of faults rose.
 #![tactic(auto)]
 
+mod calls;
+mod file_names;
 mod memory;
 mod outside;
 mod place;
 
+pub use file_names::FileNames;
 pub use memory::{MemFault, Memory};
 pub use no_memory::NoMemory;
 pub use outside::{Failed, Files, Sink};
