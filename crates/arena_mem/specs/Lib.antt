@@ -2,3 +2,6 @@ pub mod Places
 pub mod Outside
 pub mod FileNames
 pub mod Calls
+pub mod NamedBytes
+pub mod Reading
+pub mod MemoryFiles

@@ -1,5 +1,5 @@
 // Calls that fail where they were told to, with a count of their faults.
-ghost use Rattle.std.specs.Prelude.{◌≡◌};
+ghost use Rattle.std.specs.Prelude.{◌≡◌, ◌≤◌};
 ghost use Rattle.arena_mem.specs.Calls.{fails_next, no_calls, one_more};
 
 use crate::outside::Failed;
@@ -48,6 +48,7 @@ impl Calls {
     /// Counts a fault.
     pub(crate) fn fault(&mut self) -> Failed
         ensures counted { self.new ≡ record self.old { faults = one_more self.old.faults } }
+        ensures never_falls { self.old.faults ≤ self.new.faults }
     {
         self.faults = self.faults.saturating_add(1);
         Failed

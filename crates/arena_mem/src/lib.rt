@@ -8,11 +8,16 @@
 mod calls;
 mod file_names;
 mod memory;
+mod memory_files;
+mod named_bytes;
 mod outside;
 mod place;
+mod reading;
 
 pub use file_names::FileNames;
 pub use memory::{MemFault, Memory};
+pub use memory_files::MemoryFiles;
+pub use named_bytes::NamedBytes;
 pub use no_memory::NoMemory;
 pub use outside::{Failed, Files, Sink};
 pub use place::{Buffer, Place};
