@@ -5,3 +5,4 @@ pub mod Calls
 pub mod NamedBytes
 pub mod Reading
 pub mod MemoryFiles
+pub mod MemorySink
