@@ -5,11 +5,21 @@
 //! answer a fault only where their own count of faults rose.
 #![tactic(auto)]
 
+mod calls;
+mod file_names;
 mod memory;
+mod memory_files;
+mod memory_sink;
+mod named_bytes;
 mod outside;
 mod place;
+mod reading;
 
+pub use file_names::FileNames;
 pub use memory::{MemFault, Memory};
+pub use memory_files::MemoryFiles;
+pub use memory_sink::MemorySink;
+pub use named_bytes::NamedBytes;
 pub use no_memory::NoMemory;
 pub use outside::{Failed, Files, Sink};
 pub use place::{Buffer, Place};
