@@ -1,13 +1,19 @@
-// A library with one function.
+//! The top call: the whole program over files, a sink and an arena that are handed in.
+//!
+//! It stands above all other crates, and the program's `main` calls it. Its contract: a run that ends well has
+//! written exactly the framed texts of the decoded frames in order; each register stands for its tree in the arena
+//! that is handed back; and every status says when it comes.
 #![tactic(auto)]
 
-ghost use Rattle.std.specs.Prelude.{◌≡◌};
-ghost use Rattle.arena_run.specs.Echo.{echo_of};
+mod fault;
+mod input;
+mod parse;
+mod piece;
+mod program;
+mod tick;
+mod wire;
+mod words;
+mod write;
 
-// The `ensures` clause is the contract: what `echo` returns is `echo_of` of its argument, a definition
-// in `specs/Echo.antt`, which a caller's clause can cite too.
-pub fn echo(x: usize) -> usize
-    ensures { result ≡ echo_of x }
-{
-    x
-}
+pub use fault::Fault;
+pub use program::{Outcome, run};

@@ -1,0 +1,107 @@
+-- Reading at a place of the bytes.
+use Rattle.std.proofs.Common.{◌≡◌, ◌+◌, ◌-◌, ◌*◌, ◌%◌, ◌^◌, ◌<◌, ◌≤◌, ℕ, suc, List, [], ◌∷◌, length, get_or, take, drop, Option, None, Some, refl, sym, ap, ◌∙◌, subst, length-drop, add_assoc, arith}
+use Rattle.std.specs.Prelude.{option_and_then}
+use Rattle.pb_schema.specs.Frames.{frame_at}
+use Rattle.pb_schema.specs.Records.{record_at, value_at}
+use Rattle.std.specs.Option.{option_map}
+use Rattle.std.proofs.Math.Nat.{add-mod}
+use Rattle.std.proofs.lemmas.List.{get_or-drop, drop-drop}
+use Rattle.pb_schema.specs.Varint.{seven_bits, varint_at, tag_bytes, value_bytes}
+use Rattle.pb_schema.proofs.Steps.{ContinuedTo, continued_more, continued_value, continued_cut, seven_bits_more, frame_at_whole, frame_at_no_prefix}
+use Rattle.arena_run.specs.Reading.{moved}
+
+-- what was found, counted from where it stands
+pub record Found {A : Type 0} (found : Option (A × ℕ)) (start : ℕ) (x : A) (end : ℕ) : Type 0 where
+  pub bytes : ℕ
+  pub is : found ≡ Some (x, bytes)
+  pub end_is : end ≡ start + bytes
+
+pub found_from_moved : {A : Type 0} (found : Option (A × ℕ)) (start : ℕ) (x : A) (end : ℕ) → Some (x, end) ≡ moved start found → Found found start x end
+found_from_moved None start x end e = cc
+found_from_moved {A} (Some p) start x end e =
+    let same : ◌≡◌ {A = A × ℕ} (x, end) (p.0, start + p.1) = cc in
+    let wrap : A → Option (A × ℕ) = λ y. Some (y, p.1) in
+    record { bytes = p.1; is = ap wrap (sym (ap (λ (q : A × ℕ). q.0) same)); end_is = ap (λ (q : A × ℕ). q.1) same }
+
+pub none_from_moved : {A : Type 0} (found : Option (A × ℕ)) (start : ℕ) → None ≡ moved start found → found ≡ None
+none_from_moved None start e = refl
+none_from_moved (Some p) start e = cc
+
+pub moved_none : {A : Type 0} (found : Option (A × ℕ)) (start : ℕ) → found ≡ None → None ≡ moved start found
+moved_none found start e = sym (ap (moved start) e)
+
+pub moved_some : {A : Type 0} (found : Option (A × ℕ)) (start : ℕ) (x : A) (n end : ℕ) → found ≡ Some (x, n) → end ≡ start + n → Some (x, end) ≡ moved start found
+moved_some found start x n end e is_end = ap (λ k. Some (x, k)) is_end ∙ sym (ap (moved start) e)
+
+-- one byte more of a varint, modulo 2 ^ 64
+pub seven_bits_so_far : (s : List ℕ) (i value low : ℕ) → i < length s → value ≡ seven_bits (take i s) % 2 ^ 64 → low ≡ get_or s i 0 % 128 → (value + low * 2 ^ (7 * i) % 2 ^ 64) % 2 ^ 64 ≡ seven_bits (take (i + 1) s) % 2 ^ 64
+seven_bits_so_far s i value low within is_value is_low =
+    let m : ℕ = 2 ^ 64 in
+    ap (λ n. (n + low * 2 ^ (7 * i) % m) % m) is_value ∙ sym (add-mod (seven_bits (take i s)) (low * 2 ^ (7 * i)) m)
+    ∙ ap (λ b. (seven_bits (take i s) + b * 2 ^ (7 * i)) % m) is_low ∙ ap (λ n. n % m) (sym (seven_bits_more s i within))
+
+-- where a reader of a varint stands, in the bytes from `start` on
+pub record ReadTo (bytes : List ℕ) (start most i value : ℕ) : Type 0 where
+  pub continued : ContinuedTo most (drop start bytes) i
+  pub value_is : value ≡ seven_bits (take i (drop start bytes)) % 2 ^ 64
+
+pub read_more : (bytes : List ℕ) (start most i value low : ℕ) → ReadTo bytes start most i value → i < most → start + i < length bytes → 128 ≤ get_or bytes (start + i) 0 → low ≡ get_or bytes (start + i) 0 % 128
+    → ReadTo bytes start most (i + 1) ((value + low * 2 ^ (7 * i) % 2 ^ 64) % 2 ^ 64)
+read_more bytes start most i value low so_far within inside big is_low =
+    let s = drop start bytes in
+    let at = get_or-drop start bytes i 0 in
+    let here : i < length s = omega (arith, length-drop start bytes) in
+    let big_here : 128 ≤ get_or s i 0 = omega arith in
+    record {
+      continued = continued_more most s i so_far.continued within here big_here;
+      value_is = seven_bits_so_far s i value low here so_far.value_is (is_low ∙ ap (λ b. b % 128) (sym at));
+    }
+
+pub read_last : (bytes : List ℕ) (start most i value low : ℕ) → ReadTo bytes start most i value → i < most → start + i < length bytes → get_or bytes (start + i) 0 < 128 → low ≡ get_or bytes (start + i) 0 % 128
+    → Some ((value + low * 2 ^ (7 * i) % 2 ^ 64) % 2 ^ 64, start + i + 1) ≡ moved start (varint_at most (drop start bytes))
+read_last bytes start most i value low so_far within inside small is_low =
+    let s = drop start bytes in
+    let at = get_or-drop start bytes i 0 in
+    let here : i < length s = omega (arith, length-drop start bytes) in
+    let small_here : get_or s i 0 < 128 = omega arith in
+    ap (λ v. Some (v, start + i + 1)) (seven_bits_so_far s i value low here so_far.value_is (is_low ∙ ap (λ b. b % 128) (sym at)))
+    ∙ moved_some (varint_at most s) start _ (i + 1) (start + i + 1) (continued_value most s i so_far.continued within here small_here) (omega arith)
+
+pub read_cut : (bytes : List ℕ) (start most i value : ℕ) → ReadTo bytes start most i value → length bytes - start ≤ i → None ≡ moved start (varint_at most (drop start bytes))
+read_cut bytes start most i value so_far past =
+    let s = drop start bytes in
+    let end : length s ≤ i = omega (arith, length-drop start bytes) in
+    moved_none (varint_at most s) start (continued_cut most s i so_far.continued end)
+
+-- the frame whose payload has `len` bytes behind its prefix
+pub frame_read : (bytes : List ℕ) (start len at : ℕ) → Some (len, at) ≡ moved start (varint_at tag_bytes (drop start bytes)) → len < 2 ^ 31 → at + len ≤ length bytes → Some (take (at + len - at) (drop at bytes), at + len) ≡ moved start (frame_at (drop start bytes))
+frame_read bytes start len at read short fits =
+    let s = drop start bytes in
+    let prefix = found_from_moved (varint_at tag_bytes s) start len at read in
+    let ends = prefix.end_is in
+    let inside : prefix.bytes + len ≤ length s = omega (arith, length-drop start bytes) in
+    let same_len : at + len - at ≡ len = omega arith in
+    let same_place : drop at bytes ≡ drop prefix.bytes s = ap (λ k. drop k bytes) ends ∙ sym (drop-drop prefix.bytes start bytes) in
+    let payload : take (at + len - at) (drop at bytes) ≡ take len (drop prefix.bytes s) = ap (λ k. take k (drop at bytes)) same_len ∙ ap (take len) same_place in
+    let wrap : List ℕ → Option (List ℕ × ℕ) = λ p. Some (p, at + len) in
+    ap wrap payload ∙ moved_some (frame_at s) start _ (prefix.bytes + len) (at + len) (frame_at_whole s len prefix.bytes prefix.is short inside) (omega arith)
+
+-- no frame, for each reason
+pub frame_without_prefix : (bytes : List ℕ) (start : ℕ) → None ≡ moved start (varint_at tag_bytes (drop start bytes)) → None ≡ moved start (frame_at (drop start bytes))
+frame_without_prefix bytes start read = let s = drop start bytes in moved_none (frame_at s) start (frame_at_no_prefix s (none_from_moved (varint_at tag_bytes s) start read))
+
+-- a value behind a tag, counted from the tag
+moved_twice : (found : Option (ℕ × ℕ)) (start n : ℕ) → moved (start + n) found ≡ moved start (option_map (λ value. (value.0, n + value.1)) found)
+moved_twice None start n = refl
+moved_twice (Some p) start n = ap (λ k. Some (p.0, k)) (add_assoc start n p.1)
+
+pub value_read : (bytes : List ℕ) (start tag at : ℕ) (result : Option (ℕ × ℕ)) → Some (tag, at) ≡ moved start (varint_at tag_bytes (drop start bytes)) → tag ≡ 8 → result ≡ moved at (varint_at value_bytes (drop at bytes)) → result ≡ moved start (record_at 1 (drop start bytes))
+value_read bytes start tag at result read is_tag is_value =
+    let s = drop start bytes in
+    let found = found_from_moved (varint_at tag_bytes s) start tag at read in
+    let n = found.bytes in
+    let value = varint_at value_bytes (drop n s) in
+    let record_is : record_at 1 s ≡ option_map (λ v. (v.0, n + v.1)) value =
+    ap (option_and_then (λ t. value_at 1 t.0 t.1 s)) found.is ∙ ap (λ t. value_at 1 t n s) is_tag in
+    is_value ∙ ap (λ k. moved k (varint_at value_bytes (drop k bytes))) found.end_is ∙ ap (λ bs. moved (start + n) (varint_at value_bytes bs)) (sym (drop-drop n start bytes)) ∙ moved_twice value start n
+    ∙ sym (ap (moved start) record_is)

@@ -1,0 +1,16 @@
+use Rattle.std.proofs.Common.{◌≤◌, List, take}
+use Rattle.std.specs.Io.KnownBytes.{Appends, append_known}
+use Rattle.pb_schema.specs.Tree.{Tree}
+use Rattle.arena_run.specs.Stands.{AllStand}
+use Rattle.arena_run.specs.Written.{output_of, KeepsTaken}
+use Rattle.arena_run.proofs.write.write_messages.Given as goal
+
+-- what the sink took and what is gathered are the frames of the messages so far
+abbrev pub invariant-loop-message : goal.invariant-loop-message
+invariant-loop-message g l =
+    let O = g.O.Sink in
+    record {
+      frames : (trees : List Tree) → AllStand (g.M.Memory.places l.mem) l.messages trees → Appends (O.taken l.fn.out) (append_known (O.taken l.out) l.piece) (output_of (take l.message-index trees));
+      kept : KeepsTaken (O.taken l.fn.out) (O.taken l.out);
+      faults : O.faults l.fn.out ≤ O.faults l.out;
+    }

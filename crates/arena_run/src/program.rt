@@ -1,0 +1,183 @@
+// The top call, and the outcome of a run.
+ghost use Rattle.std.specs.Prelude.{◌≡◌, ◌⊎◌, ℕ, List, [], None, Some, Err, map, IfOk, IfErr, IfNone, IsSome, IsErrOf};
+ghost use Rattle.std.specs.String.{string_bytes};
+ghost use Rattle.std.specs.Io.KnownBytes.{Appends, Keeps};
+ghost use Rattle.arena_mem.specs.Places.{KeepsRest, Apart};
+ghost use Rattle.arena_mem.specs.Outside.{Rose};
+ghost use Rattle.serial_arena.specs.Serial.{places_of, buffers_of, IsUnused};
+ghost use Rattle.serial_arena.specs.Key.{key_of};
+ghost use Rattle.pb_schema.specs.Tree.{Tree};
+ghost use Rattle.arena_run.specs.Words.{IsCat, IsOtherCommand};
+ghost use Rattle.arena_run.specs.Contents.{content_of, OfContent, OfTrees};
+ghost use Rattle.arena_run.specs.Ends.{status_of, IsParsed, IsUnparsed, EndsWell};
+ghost use Rattle.arena_run.specs.Plain.{trees_of};
+ghost use Rattle.arena_run.specs.Stands.{AllStand, EachTwo, Differ};
+ghost use Rattle.arena_run.specs.Written.{output_of, TookPart};
+
+use crate::fault::Fault;
+use crate::input::{ReadEnd, read_file};
+use crate::parse::{ParseEnd, parse_frames};
+use crate::words::frames_word;
+use crate::write::write_messages;
+use arena_mem::{Files, Memory, Place, Sink};
+use serial_arena::{SerialArena, blocks_hold_places, places_lie_apart};
+use std::alloc::Global;
+
+/// What a run leaves: its status with the fault behind it, the messages by register, and the arena that they stand in.
+#[derive(Drop)]
+pub struct Outcome {
+    pub status: u8,
+    pub fault: Option<Fault>,
+    pub registers: Vec<Place>,
+    pub arena: SerialArena,
+}
+
+/// Runs the program with these words over the files, the sink and the arena that are handed in.
+///
+/// So far one command is built: `cat builtin pb.Tick FRAMES 1` parses each frame of the file into the arena, in order,
+/// and writes each message behind its prefix. FRAMES may be any name. A frames file is plain where it has at most 2^24
+/// bytes, which are at most 2^20 whole frames, each of them whole records of field 1 with wire type 0. All other words
+/// and files are refused as `NotBuilt`. What is said of a file's content or of the bytes that were taken holds where
+/// the files and the sink tell them.
+pub fn run<F: Files, O: Sink>(
+    alloc: Global,
+    words: &[String],
+    files: &mut F,
+    out: &mut O,
+    mut arena: SerialArena,
+) -> Outcome
+    requires { IsUnused arena }
+    ensures status { result.status ≡ status_of result.fault }
+
+    // Where all goes well, the sink took the framed texts of the decoded payloads, in order, and nothing else; where it
+    // fails, a front of them and not all; on every other fault it was never called.
+    ensures bytes { IfNone result.fault (OfTrees (map string_bytes words.now) (F.contents files.old) (λ trees. Appends (O.taken out.old) (O.taken out.new) (output_of trees))) }
+    ensures prefix { result.fault ≡ Some Fault.WriteFault → OfTrees (map string_bytes words.now) (F.contents files.old) (λ trees. TookPart (O.taken out.old) (O.taken out.new) (output_of trees)) }
+    ensures nothing_written { IsUnparsed result.fault → out.new ≡ out.old }
+
+    // In both of these each register stands for the tree of its frame in the arena that is handed back. No two
+    // registers share a byte. On every other fault there are none.
+    ensures registers { IsParsed result.fault → OfTrees (map string_bytes words.now) (F.contents files.old) (AllStand (places_of result.arena) result.registers.items) }
+    ensures stand { (trees : List Tree) × AllStand (places_of result.arena) result.registers.items trees }
+    ensures apart { EachTwo Apart result.registers.items }
+    ensures no_registers { IsUnparsed result.fault → result.registers.items ≡ [] }
+
+    // `NotBuilt` comes exactly where the words or the file ask for it; the file's side yields to what comes before it.
+    ensures not_built { result.fault ≡ Some Fault.NotBuilt → IsOtherCommand (map string_bytes words.now) ⊎ OfContent (map string_bytes words.now) (F.contents files.old) (λ content. trees_of content ≡ None) }
+    ensures other_command { IsOtherCommand (map string_bytes words.now) → result.fault ≡ Some Fault.NotBuilt }
+    ensures not_plain { (frames content : List ℕ) → IsCat (map string_bytes words.now) frames → content_of (F.contents files.old) frames ≡ Some content → trees_of content ≡ None → IsUnparsed result.fault }
+
+    // A fault of the files or of the sink comes only where its count rose in this call.
+    ensures read_fault { result.fault ≡ Some Fault.ReadFault → Rose (F.faults files.old) (F.faults files.new) }
+    ensures blamed { result.fault ≡ Some Fault.ReadFault → (frames : List ℕ) × IsCat (map string_bytes words.now) frames × (F.blamed files.new ≡ Some frames) }
+    ensures write_fault { result.fault ≡ Some Fault.WriteFault → Rose (O.faults out.old) (O.faults out.new) }
+
+    // A plain file that is there ends well, or in want of memory, where nothing failed.
+    ensures complete { (frames content : List ℕ) → IsCat (map string_bytes words.now) frames → content_of (F.contents files.old) frames ≡ Some content → IsSome (trees_of content)
+        → (Rose (F.faults files.old) (F.faults files.new) → ⊥) → (Rose (O.faults out.old) (O.faults out.new) → ⊥) → EndsWell result.fault }
+
+    // The arena keeps its owner, life and region, and keeps nothing outside its blocks. It is untouched where nothing
+    // was read.
+    ensures key { key_of result.arena ≡ key_of arena }
+    ensures buffers { buffers_of result.arena ≡ buffers_of arena }
+    ensures unread { result.fault ≡ Some Fault.ReadFault → result.arena ≡ arena }
+    ensures not_run { IsOtherCommand (map string_bytes words.now) → result.arena ≡ arena }
+{
+    blocks_hold_places(&arena);
+    let (fault, registers) = cat(alloc, words, files, out, &mut arena);
+    places_lie_apart(&arena);
+    Outcome {
+        status: status_of_fault(fault),
+        fault,
+        registers,
+        arena,
+    }
+}
+
+// The status of a run, by its fault.
+fn status_of_fault(fault: Option<Fault>) -> u8
+    ensures { result ≡ status_of fault }
+{
+    match fault {
+        None => 0,
+        Some(fault) => fault.status(),
+    }
+}
+
+// Reads and parses the frames file that the words name.
+fn read_messages<F: Files, M: Memory>(
+    alloc: Global,
+    words: &[String],
+    files: &mut F,
+    mem: &mut M,
+) -> Result<Vec<Place>, Fault>
+    requires { (region : ℕ) → M.blocks mem.old region ≡ 0 }
+    ensures command { IfOk result (λ _. (frames : List ℕ) × IsCat (map string_bytes words.now) frames) }
+    ensures stand { IfOk result (λ messages. OfTrees (map string_bytes words.now) (F.contents files.old) (AllStand (M.places mem.new) messages.items)) }
+    ensures stands { IfOk result (λ messages. (trees : List Tree) × AllStand (M.places mem.new) messages.items trees) }
+    ensures differ { IfOk result (λ messages. EachTwo Differ messages.items) }
+    ensures not_built { IsErrOf result Fault.NotBuilt → IsOtherCommand (map string_bytes words.now) ⊎ OfContent (map string_bytes words.now) (F.contents files.old) (λ content. trees_of content ≡ None) }
+    ensures other_command { IsOtherCommand (map string_bytes words.now) → result ≡ Err Fault.NotBuilt }
+    ensures read_fault { IsErrOf result Fault.ReadFault → Rose (F.faults files.old) (F.faults files.new) }
+    ensures blamed { IsErrOf result Fault.ReadFault → (frames : List ℕ) × IsCat (map string_bytes words.now) frames × (F.blamed files.new ≡ Some frames) }
+    ensures no_write_fault { IsErrOf result Fault.WriteFault → ⊥ }
+    ensures unread { IsErrOf result Fault.ReadFault → mem.new ≡ mem.old }
+    ensures not_run { IsOtherCommand (map string_bytes words.now) → mem.new ≡ mem.old }
+    ensures key { M.key mem.new ≡ M.key mem.old }
+    ensures rest { KeepsRest (M.places mem.old) (M.places mem.new) }
+    ensures buffers { M.buffers mem.new ≡ M.buffers mem.old }
+{
+    let Some(word) = frames_word(words) else {
+        return Err(Fault::NotBuilt);
+    };
+    let Ok(name) = word.clone() else {
+        return Err(Fault::NoMemory);
+    };
+    let bytes = match read_file(alloc, files, name) {
+        Ok(bytes) => bytes,
+        Err(ReadEnd::NoMemory) => return Err(Fault::NoMemory),
+        Err(ReadEnd::Failed) => return Err(Fault::ReadFault),
+        Err(ReadEnd::TooLong) => return Err(Fault::NotBuilt),
+    };
+    match parse_frames(alloc, mem, &bytes) {
+        Ok(messages) => Ok(messages),
+        Err(ParseEnd::NoMemory) => Err(Fault::NoMemory),
+        Err(ParseEnd::NotPlain) => Err(Fault::NotBuilt),
+    }
+}
+
+// Runs the command over any memory, and answers the messages where the frames file was parsed.
+fn cat<F: Files, O: Sink, M: Memory>(
+    alloc: Global,
+    words: &[String],
+    files: &mut F,
+    out: &mut O,
+    mem: &mut M,
+) -> (Option<Fault>, Vec<Place>)
+    requires { (region : ℕ) → M.blocks mem.old region ≡ 0 }
+    ensures command { IsParsed result.0 → (frames : List ℕ) × IsCat (map string_bytes words.now) frames }
+    ensures bytes { IfNone result.0 (OfTrees (map string_bytes words.now) (F.contents files.old) (λ trees. Appends (O.taken out.old) (O.taken out.new) (output_of trees))) }
+    ensures prefix { result.0 ≡ Some Fault.WriteFault → OfTrees (map string_bytes words.now) (F.contents files.old) (λ trees. TookPart (O.taken out.old) (O.taken out.new) (output_of trees)) }
+    ensures nothing_written { IsUnparsed result.0 → out.new ≡ out.old }
+    ensures registers { IsParsed result.0 → OfTrees (map string_bytes words.now) (F.contents files.old) (AllStand (M.places mem.new) result.1.items) }
+    ensures stand { (trees : List Tree) × AllStand (M.places mem.new) result.1.items trees }
+    ensures differ { EachTwo Differ result.1.items }
+    ensures no_registers { IsUnparsed result.0 → result.1.items ≡ [] }
+    ensures not_built { result.0 ≡ Some Fault.NotBuilt → IsOtherCommand (map string_bytes words.now) ⊎ OfContent (map string_bytes words.now) (F.contents files.old) (λ content. trees_of content ≡ None) }
+    ensures other_command { IsOtherCommand (map string_bytes words.now) → result.0 ≡ Some Fault.NotBuilt }
+    ensures read_fault { result.0 ≡ Some Fault.ReadFault → Rose (F.faults files.old) (F.faults files.new) }
+    ensures blamed { result.0 ≡ Some Fault.ReadFault → (frames : List ℕ) × IsCat (map string_bytes words.now) frames × (F.blamed files.new ≡ Some frames) }
+    ensures write_fault { result.0 ≡ Some Fault.WriteFault → Rose (O.faults out.old) (O.faults out.new) }
+    ensures unread { result.0 ≡ Some Fault.ReadFault → mem.new ≡ mem.old }
+    ensures not_run { IsOtherCommand (map string_bytes words.now) → mem.new ≡ mem.old }
+    ensures key { M.key mem.new ≡ M.key mem.old }
+    ensures buffers { M.buffers mem.new ≡ M.buffers mem.old }
+{
+    match read_messages(alloc, words, files, mem) {
+        Ok(messages) => match write_messages(mem, &messages, out) {
+            Ok(()) => (None, messages),
+            Err(_) => (Some(Fault::WriteFault), messages),
+        },
+        Err(fault) => (Some(fault), Vec::new(alloc)),
+    }
+}
