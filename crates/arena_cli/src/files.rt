@@ -1,0 +1,79 @@
+// Real files, as the top call sees files.
+ghost use Rattle.std.specs.Prelude.{◌≡◌, ◌≤◌, None, is_some};
+ghost use Rattle.arena_mem.specs.Outside.{Rose};
+
+use arena_mem::{Failed, FileNames, Files};
+use std::fs;
+use std::io::Read;
+
+/// The files of the system by their paths. It tells no content, and counts its errors.
+#[derive(Drop)]
+pub struct RealFiles<'a, R: std::rt::Files> {
+    rt: &'a R,
+    file: Option<R::File>,
+    names: FileNames,
+    faults: u64,
+}
+
+impl<'a, R: std::rt::Files> RealFiles<'a, R> {
+    /// No file is picked.
+    pub fn new(rt: &'a R) -> Self {
+        RealFiles {
+            rt,
+            file: None,
+            names: FileNames::new(),
+            faults: 0,
+        }
+    }
+
+    // Counts an error, and blames the picked name.
+    fn fault(&mut self) -> Failed
+        ensures never_falls { self.old.faults ≤ self.new.faults }
+        ensures rose { Rose self.old.faults self.new.faults }
+        ensures names { self.new.names ≡ record self.old.names { blamed = self.old.names.picked } }
+        ensures file { is_some self.new.file ≡ is_some self.old.file }
+    {
+        self.names.blame();
+        self.faults = self.faults.saturating_add(1);
+        Failed
+    }
+}
+
+impl<'a, R: std::rt::Files> Files for RealFiles<'a, R> {
+    ghost contents = { λ s. None };
+
+    ghost left = { λ s. None };
+
+    ghost faults = { λ s. s.faults };
+
+    ghost is_open = { λ s. is_some s.file };
+
+    ghost picked = { λ s. s.names.picked };
+
+    ghost blamed = { λ s. s.names.blamed };
+
+    fn pick(&mut self, name: String) -> Result<(), Failed> {
+        let opened = fs::open(self.rt, name.as_str());
+        self.names.pick(name);
+        match opened {
+            Ok(file) => {
+                self.file = Some(file);
+                Ok(())
+            }
+            Err(_) => {
+                self.file = None;
+                Err(self.fault())
+            }
+        }
+    }
+
+    fn read(&mut self, room: &mut [u8]) -> Result<usize, Failed> {
+        let Some(file) = &mut self.file else {
+            unreachable!();
+        };
+        match file.read(room) {
+            Ok(count) => Ok(count),
+            Err(_) => Err(self.fault()),
+        }
+    }
+}

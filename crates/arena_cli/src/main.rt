@@ -1,0 +1,41 @@
+//! The program: real files, standard output and an arena, handed to the top call.
+//!
+//! It stands above all crates and below nothing. Its contract is that of the traits that its adapters implement:
+//! they tell no content, and answer a fault only where their own count of errors rose. `main` prints nothing itself.
+#![tactic(auto)]
+
+mod files;
+mod sink;
+#[cfg(test)]
+mod tests;
+
+use arena_run::{Fault, run};
+use files::RealFiles;
+use serial_arena::SerialArena;
+use sink::WriterSink;
+use std::process::ExitCode;
+use std::{env, io};
+
+fn main(rt: HostRuntime) -> ExitCode {
+    match words_of(&rt) {
+        Ok(words) => {
+            let alloc = rt.alloc();
+            let mut files = RealFiles::new(&rt);
+            let mut out = WriterSink::new(io::writer(&rt));
+            let arena = SerialArena::new(alloc, 0, 1, 0);
+            ExitCode::from(run(alloc, &words, &mut files, &mut out, arena).status)
+        }
+        Err(fault) => ExitCode::from(fault.status()),
+    }
+}
+
+// The program's arguments without its own name. What isn't text is no word of any command.
+fn words_of(rt: &HostRuntime) -> Result<Vec<String>, Fault> {
+    let args = env::args(rt).map_err(|error| match error.kind() {
+        io::ErrorKind::OutOfMemory => Fault::NoMemory,
+        _ => Fault::NotBuilt,
+    })?;
+    args.skip(1)
+        .collect(rt.alloc())
+        .map_err(|_| Fault::NoMemory)
+}
