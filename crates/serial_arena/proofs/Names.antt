@@ -1,5 +1,5 @@
 -- The live places and buffers of a serial arena, by their numbers.
-use Rattle.std.proofs.Common.{◌≡◌, ℕ, zero, suc, ◌+◌, ◌-◌, ◌<◌, ◌≤◌, ◌^◌, Bool, true, false, cond, List, [], ◌∷◌, ◌++◌, length, get_or, Option, Some, None, inl, inr, ⊎_elim, refl, sym, ap, subst, ◌∙◌, arith}
+use Rattle.std.proofs.Common.{◌≡◌, ℕ, zero, suc, ◌+◌, ◌<◌, ◌≤◌, true, false, cond, List, [], ◌∷◌, ◌++◌, length, get_or, Option, Some, None, inl, inr, ⊎_elim, refl, sym, ap, subst, ◌∙◌, arith}
 use Rattle.std.specs.Prelude.{map, replicate, IsSome, ◌==◌, if◌then◌else◌}
 use Rattle.std.specs.Option.{option_map}
 use Rattle.std.specs.Ordering.{nat_cmp}
@@ -12,8 +12,8 @@ use Rattle.std.proofs.Math.ListN.{get_or-map}
 use Rattle.std.proofs.lemmas.Bool.{cases_Bool, false≢true, eqb-true, eqb-false, true_from_ne_false, false_from_ne_true}
 use Rattle.arena_mem.specs.declared.place.Place.{Place}
 use Rattle.arena_mem.specs.declared.place.Buffer.{Buffer}
-use Rattle.arena_mem.specs.Places.{place_cmp, buffer_cmp, Places, Buffers, IsLive, IsKept, KeepsRest, KeepsBuffers, Apart, round8, splice, written, replaced, AddsAtMostABlock}
-use Rattle.serial_arena.specs.Serial.{Placement, SerialState, place_in, numbered, places_of, buffers_of, blocks_of, next_placement, with_place, rewritten, with_bytes, with_kept, IsBlock, IsSerial}
+use Rattle.arena_mem.specs.Places.{place_cmp, buffer_cmp, Places, IsLive, KeepsRest, KeepsBuffers, Apart, round8, splice, written, replaced, AddsAtMostABlock}
+use Rattle.serial_arena.specs.Serial.{Placement, SerialState, place_in, numbered, places_of, buffers_of, blocks_of, next_placement, with_place, rewritten, with_bytes, with_kept, IsSerial}
 use Rattle.serial_arena.proofs.Numbered.{IsNumbered, altered, get_inserted, get_beside, stays_there, keeps_rest, get_next, from_entries_next, stands, one_key, from_entries-altered, len_all}
 
 -- ---- the orders

@@ -1,12 +1,11 @@
 -- Blocks in a row of bytes: what a push and a write leave of them.
-use Rattle.std.proofs.Common.{◌≡◌, ℕ, zero, suc, ◌+◌, ◌-◌, ◌*◌, ◌/◌, ◌%◌, ◌<◌, ◌≤◌, ◌^◌, Bool, true, false, cond, List, [], ◌∷◌, ◌++◌, length, get_or, take, drop, inl, inr, ⊎_elim, refl, sym, ap, subst, ◌∙◌, arith, rules, append_assoc}
-use Rattle.std.specs.Prelude.{map, replicate, sum_by, ◌==◌, if◌then◌else◌}
+use Rattle.std.proofs.Common.{◌≡◌, ℕ, zero, suc, ◌+◌, ◌-◌, ◌<◌, ◌≤◌, ◌^◌, cond, List, [], ◌∷◌, ◌++◌, length, get_or, take, drop, ⊎_elim, refl, sym, ap, subst, ◌∙◌, arith, rules}
+use Rattle.std.specs.Prelude.{map, sum_by, ◌==◌}
 use Rattle.std.specs.List.{range_with_len}
-use Rattle.std.proofs.lemmas.List.{same_lists, places, length-append, length-take, length-drop, length_push, get_or_append_left, get_or_at, get_or_push, drop_at, drop-append-le, take-append-le, take_all, length-map, length-replicate}
+use Rattle.std.proofs.lemmas.List.{same_lists, places, length-append, length-take, length-drop, length_push, get_or_append_left, get_or_push, drop_at, drop-append-le, take-append-le, take_all}
 use Rattle.std.proofs.lemmas.List.FromFn.{length-map-range_with_len, get_or-map-range_with_len, map-range_with_len_more, fill_by_all, sum_by-map-range_with_len_more}
-use Rattle.std.proofs.lemmas.Bool.{cases_Bool, cases_eq, cases_lt, eqb-true, eqb-false, true_from_ne_false, false_from_ne_true}
-use Rattle.std.proofs.Math.ListN.{get_or-map}
-use Rattle.arena_mem.specs.Places.{round8, splice, IsPlaceable}
+use Rattle.std.proofs.lemmas.Bool.{cases_Bool, cases_lt, eqb-true, eqb-false}
+use Rattle.arena_mem.specs.Places.{splice}
 use Rattle.arena_mem.specs.declared.place.Place.{Place}
 use Rattle.serial_arena.specs.Serial.{Placement, rewritten, IsBlock, IsLength}
 use Rattle.serial_arena.specs.Layout.{bounds, block_at, blocks_in, IsLaidOut}

@@ -1,16 +1,15 @@
 -- What the fields of an arena say of the state that contracts see.
-use Rattle.std.proofs.Common.{◌≡◌, ℕ, ◌+◌, ◌-◌, ◌*◌, ◌/◌, ◌%◌, ◌<◌, ◌≤◌, ◌^◌, List, [], ◌∷◌, ◌++◌, length, get_or, take, drop, Option, Some, refl, sym, ap, subst, ◌∙◌, arith}
-use Rattle.std.specs.Prelude.{replicate, IsSome}
+use Rattle.std.proofs.Common.{◌≡◌, ℕ, ◌+◌, ◌-◌, ◌<◌, ◌≤◌, ◌^◌, List, [], ◌∷◌, ◌++◌, length, get_or, take, drop, Some, refl, sym, ap, subst, ◌∙◌, arith}
+use Rattle.std.specs.Prelude.{replicate}
 use Rattle.std.specs.FinMap as fin
 use Rattle.std.proofs.lemmas.List.{length-replicate}
 use Rattle.arena_mem.specs.declared.place.Place.{Place}
 use Rattle.arena_mem.specs.declared.place.Buffer.{Buffer}
 use Rattle.arena_mem.specs.Places.{Places, IsLive, IsKept, IsPlaceable, round8, splice}
-use Rattle.serial_arena.specs.Serial.{Placement, SerialState, places_of, buffers_of, used_of, next_placement, with_place, with_bytes, with_kept, IsLength, IsSerial}
-use Rattle.serial_arena.specs.Layout.{state_of, HoldsBlocks, IsLaidOut, bounds, block_at, blocks_in}
-use Rattle.serial_arena.specs.declared.arena.SerialArena.TheInside.{Inside}
+use Rattle.serial_arena.specs.Serial.{Placement, SerialState, places_of, buffers_of, used_of, with_place, with_bytes, with_kept, IsLength, IsSerial}
+use Rattle.serial_arena.specs.Layout.{IsLaidOut, bounds, block_at, blocks_in}
 use Rattle.serial_arena.proofs.Names.{from_IsSome, entry, live_at, kept_at}
-use Rattle.serial_arena.proofs.Rows.{count_blocks, block_is, blocks_serial, start_bound, used_all, block_fits, blocks_more, laid_out_more, write_fits, laid_out_still, blocks_written}
+use Rattle.serial_arena.proofs.Rows.{count_blocks, block_is, blocks_serial, start_bound, used_all, block_fits, blocks_more, laid_out_more, laid_out_still, blocks_written}
 
 -- a rounded length
 pub rounded_length : (bytes : ℕ) → IsPlaceable bytes → IsLength (round8 bytes)

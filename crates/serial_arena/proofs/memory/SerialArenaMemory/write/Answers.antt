@@ -1,9 +1,9 @@
-use Rattle.std.proofs.Common.{◌≡◌, ◌+◌, ◌<◌, ◌≤◌, length, get_or, take, drop, Some, sym, ap, subst, ◌∙◌, arith}
+use Rattle.std.proofs.Common.{◌≡◌, ◌+◌, length, get_or, sym, ap, subst, ◌∙◌, arith}
 use Rattle.std.specs.FinMap as fin
 use Rattle.std.specs.Vec.{with_items}
 use Rattle.std.proofs.lemmas.List.{with_items_is}
 use Rattle.arena_mem.specs.Places.{splice, IsLive}
-use Rattle.serial_arena.specs.Serial.{SerialState, places_of, with_bytes, IsSerial}
+use Rattle.serial_arena.specs.Serial.{SerialState, places_of, IsSerial}
 use Rattle.serial_arena.proofs.Names.{with_bytes_here, with_bytes_beside, with_bytes_is, with_bytes_live}
 use Rattle.serial_arena.proofs.Rows.{length-splice}
 use Rattle.serial_arena.proofs.States.{lies_there, state_serial, wrote, wrote_well}
