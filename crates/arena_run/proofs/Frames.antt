@@ -1,6 +1,7 @@
 -- The frame of a message as it is built: its prefix is put in last.
-use Rattle.std.proofs.Common.{◌≡◌, ◌+◌, ◌-◌, ◌^◌, ◌<◌, ◌≤◌, ℕ, zero, suc, List, [], ◌∷◌, ◌++◌, length, set, refl, sym, ap, ◌∙◌, subst, append_assoc, length-append, arith}
-use Rattle.std.proofs.lemmas.List.{set_at, length_push}
+use Rattle.std.proofs.Common.{◌≡◌, ◌+◌, ◌-◌, ◌^◌, ◌<◌, ◌≤◌, ℕ, zero, suc, List, [], ◌∷◌, ◌++◌, length, get_or, take, set, refl, sym, ap, ◌∙◌, subst, append_assoc, length-append, arith}
+use Rattle.std.proofs.lemmas.List.{set_at, length_push, length-take-le, take_more, take_more_set}
+use Rattle.std.proofs.Math.Seq.{take-set-lt}
 use Rattle.pb_schema.specs.Tree.{tick}
 use Rattle.pb_schema.specs.Text.{varint_of, text_of, framed}
 use Rattle.pb_schema.proofs.Steps.{framed-text_of}
@@ -10,13 +11,22 @@ text_of-tick zero h = absurd (h refl)
 text_of-tick (suc v) h = refl
 
 -- a byte is left for the prefix, the text goes behind it, and then the prefix is the text's length
-pub prefix_put : (was one two three all : List ℕ) (v prefix len : ℕ) → (v ≡ 0 → ⊥) → one ≡ was ++ 0 ∷ [] → two ≡ one ++ 8 ∷ [] → three ≡ two ++ varint_of v
-    → prefix ≡ length was → len ≡ length three → all ≡ set three prefix (len - prefix - 1) → all ≡ was ++ framed (text_of (tick v))
-prefix_put was one two three all v prefix len set_ is_one is_two is_three is_prefix is_len is_all =
+pub prefix_put : (before after : List ℕ) (filled end v : ℕ) → (v ≡ 0 → ⊥) → filled + 12 ≤ length before → filled < end → end ≤ length after
+    → take end after ≡ take (filled + 2) (set before (filled + 1) 8) ++ varint_of v
+    → take end (set after filled (end - filled - 1)) ≡ take filled before ++ framed (text_of (tick v))
+prefix_put before after filled end v is_set room behind within text_put =
+    let was = take filled before in
+    let hole = get_or before filled 0 in
     let text = 8 ∷ varint_of v in
-    let whole : three ≡ was ++ 0 ∷ text =
-    is_three ∙ ap (λ b. b ++ varint_of v) (is_two ∙ ap (λ b. b ++ 8 ∷ []) is_one) ∙ append_assoc (was ++ 0 ∷ []) (8 ∷ []) (varint_of v) ∙ append_assoc was (0 ∷ []) text in
-    let size : length three ≡ length was + suc (length text) = ap length whole ∙ length-append was (0 ∷ text) in
-    let short : len - prefix - 1 ≡ length text = omega arith in
-    is_all ∙ ap (λ n. set three prefix n) short ∙ ap (λ b. set b prefix (length text)) whole ∙ set_at was 0 text (length text) prefix (sym is_prefix)
-    ∙ ap (λ b. was ++ b) (ap (λ t. length t ∷ t) (sym (text_of-tick v set_)) ∙ sym (framed-text_of (tick v)))
+    let size : length was ≡ filled = length-take-le filled before (omega arith) in
+    let tag : take (filled + 2) (set before (filled + 1) 8) ≡ (was ++ hole ∷ []) ++ 8 ∷ [] =
+      ap (λ n. take n (set before (filled + 1) 8)) (two filled) ∙ take_more_set before (filled + 1) 8 (omega arith) ∙ ap (λ bs. bs ++ 8 ∷ []) (take_more before filled 0 (omega arith)) in
+    let whole : take end after ≡ was ++ hole ∷ text =
+      text_put ∙ ap (λ bs. bs ++ varint_of v) tag ∙ append_assoc (was ++ hole ∷ []) (8 ∷ []) (varint_of v) ∙ append_assoc was (hole ∷ []) text in
+    let total : end ≡ length was + suc (length text) = sym (length-take-le end after within) ∙ ap length whole ∙ length-append was (hole ∷ text) in
+    let short : end - filled - 1 ≡ length text = omega arith in
+    take-set-lt end after filled (end - filled - 1) behind ∙ ap (λ n. set (take end after) filled n) short ∙ ap (λ bs. set bs filled (length text)) whole ∙ set_at was hole text (length text) filled size
+    ∙ ap (λ bs. was ++ bs) (ap (λ t. length t ∷ t) (sym (text_of-tick v is_set)) ∙ sym (framed-text_of (tick v)))
+  where
+    two : (n : ℕ) → n + 2 ≡ n + 1 + 1
+    two n = omega arith

@@ -1,5 +1,6 @@
 -- Reading at a place of the bytes.
-use Rattle.std.proofs.Common.{◌≡◌, ◌+◌, ◌-◌, ◌*◌, ◌%◌, ◌^◌, ◌<◌, ◌≤◌, ℕ, suc, List, [], ◌∷◌, length, get_or, take, drop, Option, None, Some, refl, sym, ap, ◌∙◌, subst, length-drop, add_assoc, arith}
+use Rattle.std.proofs.Common.{◌≡◌, ◌+◌, ◌-◌, ◌*◌, ◌%◌, ◌^◌, ◌<◌, ◌≤◌, ℕ, suc, List, [], ◌∷◌, length, get_or, take, drop, Option, None, Some, refl, sym, ap, ◌∙◌, subst, length-drop, add_assoc, min, ◌⊎◌, ⊎_elim, inl, inr, arith}
+use Rattle.std.proofs.lemmas.Bool.{cases_lt}
 use Rattle.std.specs.Prelude.{option_and_then}
 use Rattle.pb_schema.specs.Frames.{frame_at}
 use Rattle.pb_schema.specs.Records.{record_at, value_at}
@@ -7,7 +8,7 @@ use Rattle.std.specs.Option.{option_map}
 use Rattle.std.proofs.Math.Nat.{add-mod}
 use Rattle.std.proofs.lemmas.List.{get_or-drop, drop-drop}
 use Rattle.pb_schema.specs.Varint.{seven_bits, varint_at, tag_bytes, value_bytes}
-use Rattle.pb_schema.proofs.Steps.{ContinuedTo, continued_more, continued_value, continued_cut, seven_bits_more, frame_at_whole, frame_at_no_prefix}
+use Rattle.pb_schema.proofs.Steps.{ContinuedTo, continued_more, continued_value, continued_cut, continued_long, seven_bits_more, frame_at_whole, frame_at_no_prefix}
 use Rattle.arena_run.specs.Reading.{moved}
 
 -- what was found, counted from where it stands
@@ -67,11 +68,11 @@ read_last bytes start most i value low so_far within inside small is_low =
     ap (λ v. Some (v, start + i + 1)) (seven_bits_so_far s i value low here so_far.value_is (is_low ∙ ap (λ b. b % 128) (sym at)))
     ∙ moved_some (varint_at most s) start _ (i + 1) (start + i + 1) (continued_value most s i so_far.continued within here small_here) (omega arith)
 
-pub read_cut : (bytes : List ℕ) (start most i value : ℕ) → ReadTo bytes start most i value → length bytes - start ≤ i → None ≡ moved start (varint_at most (drop start bytes))
+pub read_cut : (bytes : List ℕ) (start most i value : ℕ) → ReadTo bytes start most i value → min most (length bytes - start) ≤ i → None ≡ moved start (varint_at most (drop start bytes))
 read_cut bytes start most i value so_far past =
     let s = drop start bytes in
-    let end : length s ≤ i = omega (arith, length-drop start bytes) in
-    moved_none (varint_at most s) start (continued_cut most s i so_far.continued end)
+    let end : (length s ≤ i) ⊎ (most ≤ i) = ⊎_elim (λ less. inl (omega (arith, length-drop start bytes))) (λ more. inr more) (cases_lt i most) in
+    moved_none (varint_at most s) start (⊎_elim (continued_cut most s i so_far.continued) (continued_long most s i so_far.continued) end)
 
 -- the frame whose payload has `len` bytes behind its prefix
 pub frame_read : (bytes : List ℕ) (start len at : ℕ) → Some (len, at) ≡ moved start (varint_at tag_bytes (drop start bytes)) → len < 2 ^ 31 → at + len ≤ length bytes → Some (take (at + len - at) (drop at bytes), at + len) ≡ moved start (frame_at (drop start bytes))

@@ -8,7 +8,6 @@
 mod fault;
 mod input;
 mod parse;
-mod piece;
 mod program;
 mod tick;
 mod wire;

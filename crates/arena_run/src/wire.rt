@@ -28,11 +28,9 @@ fn read_varint(bytes: &[u8], start: usize, most: usize) -> Option<(u64, usize)>
     ensures found { result ≡ moved start (varint_at most (drop start bytes.now)) }
     ensures bound { IfSome result (λ found. (start < found.1) × (found.1 ≤ length bytes.now)) }
 {
+    let limit = most.min(bytes.len() - start);
     let mut value = 0u64;
-    for i in 0..most {
-        if bytes.len() - start <= i {
-            return None;
-        }
+    for i in 0..limit {
         let byte = bytes[start + i];
         value = value.wrapping_add(u64::from(byte % 128) << (7 * i));
         if byte < 128 {

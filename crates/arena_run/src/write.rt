@@ -1,5 +1,5 @@
 // Writing messages to a sink, each behind its prefix.
-ghost use Rattle.std.specs.Prelude.{◌≡◌, ◌+◌, ◌<◌, ◌≤◌, ◌++◌, [], ℕ, List, length, OnOk, OnErr};
+ghost use Rattle.std.specs.Prelude.{◌≡◌, ◌+◌, ◌<◌, ◌≤◌, ◌++◌, List, length, take, IfOk, OnOk, OnErr};
 ghost use Rattle.std.specs.Io.KnownBytes.{Appends, Keeps, append_known};
 ghost use Rattle.arena_mem.specs.Outside.{HasCause};
 ghost use Rattle.pb_schema.specs.Tree.{Tree, tick};
@@ -7,9 +7,11 @@ ghost use Rattle.pb_schema.specs.Text.{varint_of, text_of, framed};
 ghost use Rattle.arena_run.specs.Stands.{AllStand};
 ghost use Rattle.arena_run.specs.Written.{output_of, TookPart, KeepsTaken};
 
-use crate::piece::{PIECE_BYTES, Piece};
 use crate::tick;
 use arena_mem::{Failed, Memory, Place, Sink};
+
+/// How many bytes are gathered before they are handed to the sink.
+const GATHERED_BYTES: usize = 32768;
 
 /// The tag of field 1 with wire type 0.
 const VALUE_TAG: u8 = 8;
@@ -28,27 +30,31 @@ pub fn write_messages<M: Memory, O: Sink>(
     ensures err { (trees : List Tree) → AllStand (M.places mem.now) messages.now trees → OnErr result (TookPart (O.taken out.old) (O.taken out.new) (output_of trees)) }
     ensures cause { HasCause (O.faults out.old) (O.faults out.new) result }
 {
-    let mut piece = Piece::new();
+    let mut buffer = [0u8; GATHERED_BYTES];
+    let mut filled = 0;
     for message in messages {
-        make_room(&mut piece, out)?;
-        put_frame(&mut piece, tick::number(mem, *message));
+        filled = make_room(&buffer, filled, out)?;
+        filled = put_frame(&mut buffer, filled, tick::number(mem, *message));
     }
-    hand_over(piece.bytes(), out)
+    hand_over(&buffer[..filled], out)
 }
 
-// Hands the gathered bytes over where there isn't room for a frame.
-fn make_room<O: Sink>(piece: &mut Piece, out: &mut O) -> Result<(), Failed>
-    ensures room { OnOk result (length piece.new + 12 ≤ 32768) }
-    ensures ok { OnOk result (Keeps (append_known (O.taken out.old) piece.old) (append_known (O.taken out.new) piece.new)) }
-    ensures err { OnErr result (TookPart (O.taken out.old) (O.taken out.new) piece.old) }
+// Hands the gathered bytes over where there isn't room for a frame behind them. Answers how many are left.
+#[inline]
+fn make_room<O: Sink>(buffer: &[u8], filled: usize, out: &mut O) -> Result<usize, Failed>
+    requires filled { filled ≤ length buffer.now }
+    requires large { 12 ≤ length buffer.now }
+    ensures room { IfOk result (λ left. left + 12 ≤ length buffer.now) }
+    ensures ok { IfOk result (λ left. Keeps (append_known (O.taken out.old) (take filled buffer.now)) (append_known (O.taken out.new) (take left buffer.now))) }
+    ensures err { OnErr result (TookPart (O.taken out.old) (O.taken out.new) (take filled buffer.now)) }
     ensures longer { KeepsTaken (O.taken out.old) (O.taken out.new) }
     ensures cause { HasCause (O.faults out.old) (O.faults out.new) result }
 {
-    if piece.len() > PIECE_BYTES - LONGEST_FRAME {
-        hand_over(piece.bytes(), out)?;
-        piece.clear();
+    if buffer.len() - filled >= LONGEST_FRAME {
+        return Ok(filled);
     }
-    Ok(())
+    hand_over(&buffer[..filled], out)?;
+    Ok(0)
 }
 
 // Writes all of the bytes, in as many calls as the sink wants.
@@ -65,30 +71,37 @@ fn hand_over<O: Sink>(bytes: &[u8], out: &mut O) -> Result<(), Failed>
     Ok(())
 }
 
-// Adds the frame of a message whose field has this number.
-fn put_frame(piece: &mut Piece, value: u64)
-    requires { length piece.old + 12 ≤ 32768 }
-    ensures { piece.new ≡ piece.old ++ framed (text_of (tick value)) }
+// Puts the frame of a message whose field has this number behind `filled` bytes. Answers where it ends.
+#[inline]
+fn put_frame(buffer: &mut [u8], filled: usize, value: u64) -> usize
+    requires { filled + 12 ≤ length buffer.old }
+    ensures frame { take result buffer.new ≡ take filled buffer.old ++ framed (text_of (tick value)) }
+    ensures bound { result ≤ length buffer.new }
 {
-    let prefix = piece.len();
-    piece.push(0);
-    if value != 0 {
-        piece.push(VALUE_TAG);
-        put_varint(piece, value);
-        let text_bytes = piece.len() - prefix - 1;
-        piece.set(prefix, text_bytes as u8);
+    if value == 0 {
+        buffer[filled] = 0;
+        return filled + 1;
     }
+    buffer[filled + 1] = VALUE_TAG;
+    let end = put_varint(buffer, filled + 2, value);
+    buffer[filled] = (end - filled - 1) as u8;
+    end
 }
 
-// Adds the shortest varint of a value.
-fn put_varint(piece: &mut Piece, value: u64)
-    requires { length piece.old + 10 ≤ 32768 }
-    ensures { piece.new ≡ piece.old ++ varint_of value }
+// Puts the shortest varint of a value behind `start` bytes. Answers where it ends.
+#[inline]
+fn put_varint(buffer: &mut [u8], start: usize, value: u64) -> usize
+    requires { start + 10 ≤ length buffer.old }
+    ensures spelled { take result buffer.new ≡ take start buffer.old ++ varint_of value }
+    ensures bound { (start < result) × (result ≤ start + 10) }
 {
     let mut rest = value;
+    let mut end = start;
     while rest >= 128 {
-        piece.push((rest % 128) as u8 + 128);
+        buffer[end] = (rest % 128) as u8 + 128;
         rest /= 128;
+        end += 1;
     }
-    piece.push(rest as u8);
+    buffer[end] = rest as u8;
+    end + 1
 }

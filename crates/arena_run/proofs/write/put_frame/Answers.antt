@@ -1,7 +1,9 @@
+use Rattle.std.proofs.Common.{◌+◌, arith}
+use Rattle.std.proofs.lemmas.List.{length-set}
 use Rattle.arena_run.proofs.Frames.{prefix_put}
 use Rattle.arena_run.proofs.write.put_frame.Goals as goal
 
-pub returns-then-value-ne0 : goal.returns-then-value-ne0
-returns-then-value-ne0 c =
-    prefix_put c.args.piece.now c.push.new.self c.push-then-value-ne0.new.self c.put_varint.new.piece _ c.args.value _ _ c.if-value-ne0.true
-    c.push.ensures c.push-then-value-ne0.ensures c.put_varint.ensures c.len-prefix.ensures.value c.len.ensures.value c.set.ensures
+pub returns-clause-frame : goal.returns-clause-frame
+returns-clause-frame c =
+    prefix_put c.args.buffer.now c.put_varint-end.new.buffer c.args.filled c.put_varint-end.result c.args.value c.if-value-eq0.false c.requires (omega (arith, c.put_varint-end.ensures.bound))
+    (omega (arith, c.put_varint-end.ensures.bound, length-set c.args.buffer.now (c.args.filled + 1) 8)) c.put_varint-end.ensures.spelled

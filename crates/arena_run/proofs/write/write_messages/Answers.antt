@@ -20,11 +20,11 @@ OnErr-from (Err e) p = p
 abbrev no_place : Place
 no_place = record { region = 0; block = 0; offset = 0; len = 0 }
 
-pub returns-in_err-make_room-clause-err : goal.returns-in_err-make_room-clause-err
-returns-in_err-make_room-clause-err g c = λ trees all.
+pub returns-in_err-filled-clause-err : goal.returns-in_err-filled-clause-err
+returns-in_err-filled-clause-err g c = λ trees all.
     let i = c.loop-message.message-index in
     OnErr-from (c.from_residual.result)
-    (part_handed_over _ (g.O.Sink.taken c.loop-message.out) _ c.loop-message.piece _ _ _ c.loop-message.invariant.kept (c.loop-message.invariant.frames trees all) c.in_err-make_room.ensures.err (output_parts trees i))
+    (part_handed_over _ (g.O.Sink.taken c.loop-message.out) _ (take c.loop-message.filled c.loop-message.buffer) _ _ _ c.loop-message.invariant.kept (c.loop-message.invariant.frames trees all) c.in_err-filled.ensures.err (output_parts trees i))
 
 pub number-requires : goal.number-requires
 number-requires g c =
@@ -35,10 +35,12 @@ pub loop-message-preserved : goal.loop-message-preserved
 loop-message-preserved g c = record {
   frames = λ trees all.
       let at = stands_at_index _ c.args.messages.now trees c.loop-message.message-index no_place c.loop-message-test.true all in
-      frame_gathered _ trees _ c.loop-message.message-index _ (g.O.Sink.taken c.loop-message.out) _ c.loop-message.piece c.make_room.new.piece c.put_frame.new.piece c.number.result at
-      (c.number.ensures at.tree at.stands) c.put_frame.ensures (c.loop-message.invariant.frames trees all) c.in_ok-make_room.ensures.ok;
+      frame_gathered _ trees _ c.loop-message.message-index _ (g.O.Sink.taken c.loop-message.out) _ (take c.loop-message.filled c.loop-message.buffer) (take c.in_ok-filled.filled c.loop-message.buffer) (take c.put_frame-filled.result c.put_frame-filled.new.buffer) c.number.result at
+      (c.number.ensures at.tree at.stands) c.put_frame-filled.ensures.frame (c.loop-message.invariant.frames trees all) c.in_ok-filled.ensures.ok;
   kept = KeepsTaken-trans _ _ _ c.loop-message.invariant.kept c.make_room.ensures.longer;
   faults = omega (arith, c.make_room.ensures.cause.never_falls);
+  filled = c.put_frame-filled.ensures.bound;
+  size = omega arith;
 }
 
 -- behind the last message all of them are gathered
@@ -51,7 +53,7 @@ returns-clause-ok g c = λ trees all.
     let before = g.O.Sink.taken c.loop-message.out in
     on_ok_weaker c.hand_over.result
     (λ given. subst (Appends (g.O.Sink.taken c.args.out.now) (g.O.Sink.taken c.hand_over.new.out)) whole
-    (all_handed_over _ before _ c.loop-message.piece _ (c.loop-message.invariant.frames trees all) (subst (Appends before (g.O.Sink.taken c.hand_over.new.out)) c.bytes.ensures given)))
+    (all_handed_over _ before _ (take c.loop-message.filled c.loop-message.buffer) _ (c.loop-message.invariant.frames trees all) given))
     c.hand_over.ensures.ok
 
 pub returns-clause-err : goal.returns-clause-err
@@ -59,6 +61,6 @@ returns-clause-err g c = λ trees all.
     let whole = all_gathered _ c.args.messages.now trees c.loop-message.message-index c.loop-message-test.false all in
     let before = g.O.Sink.taken c.loop-message.out in
     on_err_weaker c.hand_over.result
-    (λ given. part_handed_over _ before _ c.loop-message.piece _ _ _ c.loop-message.invariant.kept (c.loop-message.invariant.frames trees all)
-    (subst (TookPart before (g.O.Sink.taken c.hand_over.new.out)) c.bytes.ensures given) (sym whole ∙ sym (append-nil _)))
+    (λ given. part_handed_over _ before _ (take c.loop-message.filled c.loop-message.buffer) _ _ _ c.loop-message.invariant.kept (c.loop-message.invariant.frames trees all)
+    given (sym whole ∙ sym (append-nil _)))
     c.hand_over.ensures.err

@@ -1,4 +1,4 @@
-use Rattle.std.proofs.Common.{◌≤◌, List, take}
+use Rattle.std.proofs.Common.{◌≡◌, ◌≤◌, List, length, take}
 use Rattle.std.specs.Io.KnownBytes.{Appends, append_known}
 use Rattle.pb_schema.specs.Tree.{Tree}
 use Rattle.arena_run.specs.Stands.{AllStand}
@@ -10,7 +10,9 @@ abbrev pub invariant-loop-message : goal.invariant-loop-message
 invariant-loop-message g l =
     let O = g.O.Sink in
     record {
-      frames : (trees : List Tree) → AllStand (g.M.Memory.places l.mem) l.messages trees → Appends (O.taken l.fn.out) (append_known (O.taken l.out) l.piece) (output_of (take l.message-index trees));
+      frames : (trees : List Tree) → AllStand (g.M.Memory.places l.mem) l.messages trees → Appends (O.taken l.fn.out) (append_known (O.taken l.out) (take l.filled l.buffer)) (output_of (take l.message-index trees));
       kept : KeepsTaken (O.taken l.fn.out) (O.taken l.out);
       faults : O.faults l.fn.out ≤ O.faults l.out;
+      filled : l.filled ≤ length l.buffer;
+      size : length l.buffer ≡ 32768;
     }
