@@ -1,5 +1,5 @@
 // Parsing the frames of a file into messages.
-ghost use Rattle.std.specs.Prelude.{◌≡◌, ℕ, None, IfOk, IsErrOf, IsSomeAnd};
+ghost use Rattle.std.specs.Prelude.{◌≡◌, ℕ, [], None, IfOk, IfErr, IsErrOf, IsSomeAnd};
 ghost use Rattle.arena_mem.specs.Places.{KeepsRest};
 ghost use Rattle.arena_run.specs.Plain.{trees_in};
 ghost use Rattle.arena_run.specs.Stands.{AllStand, EachTwo, Differ};
@@ -33,7 +33,7 @@ pub fn parse_frames<M: Memory>(
     ensures rest { KeepsRest (M.places mem.old) (M.places mem.new) }
     ensures buffers { M.buffers mem.new ≡ M.buffers mem.old }
 {
-    let mut messages = Vec::new(alloc);
+    let mut messages = room_for_messages(alloc, bytes.len())?;
     let mut at = 0;
     while at < bytes.len() {
         let Some((payload, end)) = read_frame(bytes, at) else {
@@ -54,4 +54,12 @@ pub fn parse_frames<M: Memory>(
         at = end;
     }
     Ok(messages)
+}
+
+// Room for the messages of a file of so many bytes. A frame has a byte at least, so it never grows.
+fn room_for_messages(alloc: Global, bytes: usize) -> Result<Vec<Place>, ParseEnd>
+    ensures empty { IfOk result (λ messages. messages.items ≡ []) }
+    ensures no_memory { IfErr result (λ end. end ≡ ParseEnd.NoMemory) }
+{
+    Vec::with_capacity(alloc, bytes.min(FRAME_COUNT_LIMIT)).map_err(|_| ParseEnd::NoMemory)
 }

@@ -9,7 +9,7 @@ use Rattle.arena_run.proofs.parse.parse_frames.Goals as goal
 
 pub loop-at-init : goal.loop-at-init
 loop-at-init g c =
-    let none = c.new-messages.ensures.items in
+    let none = c.in_ok-messages.ensures.empty in
     let count = ap length none in
     record {
       within = omega arith;
