@@ -28,11 +28,11 @@ impl Model for MemoryFiles {
     ghost Value = { FilesState };
 
     ghost view = { λ a. record {
-        files = a.files.items;
-        left = left_of a.files.items a.reading;
-        is_open = is_some a.reading;
-        names = a.names;
-        calls = a.calls
+      files = a.files.items;
+      left = left_of a.files.items a.reading;
+      is_open = is_some a.reading;
+      names = a.names;
+      calls = a.calls;
     } };
 
     ghost invariant = { λ a. IsReadingOf a.files.items a.reading };
