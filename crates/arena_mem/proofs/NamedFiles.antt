@@ -1,5 +1,5 @@
 -- What the map of named files answers, file by file.
-use Rattle.std.proofs.Common.{◌≡◌, ℕ, suc, ◌+◌, ◌<◌, ◌≤◌, List, [], ◌∷◌, length, get_or, drop, cond, true, false, None, Some, sym, ap, ◌∙◌, add-one, drop-cons}
+use Rattle.std.proofs.Common.{◌≡◌, ℕ, suc, ◌+◌, ◌<◌, ◌≤◌, List, [], ◌∷◌, length, get_or, drop, cond, true, false, None, Some, ap, ◌∙◌, add-one, drop-cons}
 use Rattle.std.proofs.lemmas.Cmp.{nat_list_cmp_total}
 use Rattle.std.proofs.lemmas.List.{get_or_read, at_drop_all}
 use Rattle.std.proofs.lemmas.Map.Text.{is_eq-slice_cmp}
