@@ -1,5 +1,5 @@
 -- What the map of named files answers, file by file.
-use Rattle.std.proofs.Common.{◌≡◌, ℕ, suc, ◌+◌, ◌<◌, ◌≤◌, List, [], ◌∷◌, length, get_or, drop, cond, true, false, None, Some, sym, ap, ◌∙◌, add-one, drop-cons}
+use Rattle.std.proofs.Common.{◌≡◌, ℕ, suc, ◌+◌, ◌<◌, ◌≤◌, List, [], ◌∷◌, length, get_or, drop, cond, true, false, None, Some, ap, ◌∙◌, add-one, drop-cons}
 use Rattle.std.proofs.lemmas.Cmp.{nat_list_cmp_total}
 use Rattle.std.proofs.lemmas.List.{get_or_read, at_drop_all}
 use Rattle.std.proofs.lemmas.Map.Text.{is_eq-slice_cmp}
@@ -25,7 +25,7 @@ pub get-named_files_here : (fs : List FileBytes) (i : ℕ) (f : FileBytes) (q : 
     → bytes_eq q f.name ≡ true → get (named_files (drop i fs)) q ≡ Some (content_at fs i)
 get-named_files_here fs i f q h e same =
     get-named_files_from fs i f q h e ∙ ap (λ b. cond b (Some f.content) (get (named_files (drop (i + 1) fs)) q)) same
-      ∙ ap (λ g. Some g.content) (get_or_read fs i f h e (record { name = []; content = [] }))
+    ∙ ap (λ g. Some g.content) (get_or_read fs i f h e (record { name = []; content = [] }))
 
 -- a file of another name leaves the answer to those behind it
 pub get-named_files_next : (fs : List FileBytes) (i : ℕ) (f : FileBytes) (q : List ℕ) → i < length fs → f ≡ get_or fs i f

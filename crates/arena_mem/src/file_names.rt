@@ -25,8 +25,8 @@ impl Model for FileNames {
     ghost Value = { Names };
 
     ghost view = { λ n. record {
-        picked = option_map string_bytes n.picked;
-        blamed = option_map string_bytes (if n.blames_picked then n.picked else n.blamed_before)
+      picked = option_map string_bytes n.picked;
+      blamed = option_map string_bytes (if n.blames_picked then n.picked else n.blamed_before);
     } };
 }
 

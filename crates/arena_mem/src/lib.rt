@@ -1,8 +1,10 @@
-//! What the layers above see of memory, files and sinks: the names of places, and three traits.
+//! What the layers above see of memory, files and sinks: the names of places, three traits, and files and a
+//! sink in memory.
 //!
 //! It stands between the arenas, which implement `Memory`, and the messages, which are generic over it. Its
 //! contract: a `Memory` is a finite map from live places and live buffers to their bytes; `Files` and `Sink`
-//! answer a fault only where their own count of faults rose.
+//! answer a fault only where their own count of faults rose; `MemoryFiles` and `MemorySink` tell all of this,
+//! and fail at the calls that they were told to.
 #![tactic(auto)]
 
 mod calls;
@@ -23,3 +25,6 @@ pub use named_bytes::NamedBytes;
 pub use no_memory::NoMemory;
 pub use outside::{Failed, Files, Sink};
 pub use place::{Buffer, Place};
+
+#[cfg(test)]
+mod tests;

@@ -1,6 +1,5 @@
 // Files in memory that fail where they were told to.
-ghost use Rattle.std.specs.Prelude.{◌≡◌, ◌+◌, ◌-◌, ◌<◌, ◌≤◌, min, [], ◌++◌, length, take, drop, None, Some, IsTrue, IsSome, IfSome, IfNone, false, is_ok, is_err, is_some, IfOk, OnOk, OnErr, IsOk};
-ghost use Rattle.std.specs.Prelude.{if◌then◌else◌, unwrap_or};
+ghost use Rattle.std.specs.Prelude.{◌≡◌, ◌<◌, min, [], ◌++◌, length, take, drop, None, Some, IsTrue, false, is_ok, is_err, is_some, IfOk, OnErr, unwrap_or};
 ghost use Rattle.std.specs.String.{string_bytes};
 ghost use Rattle.arena_mem.specs.NamedBytes.{named_files};
 
@@ -28,11 +27,11 @@ impl Model for MemoryFiles {
     ghost Value = { FilesState };
 
     ghost view = { λ a. record {
-        files = a.files.items;
-        left = left_of a.files.items a.reading;
-        is_open = is_some a.reading;
-        names = a.names;
-        calls = a.calls
+      files = a.files.items;
+      left = left_of a.files.items a.reading;
+      is_open = is_some a.reading;
+      names = a.names;
+      calls = a.calls;
     } };
 
     ghost invariant = { λ a. IsReadingOf a.files.items a.reading };
@@ -43,7 +42,8 @@ impl MemoryFiles {
 
     /// These files, of which none is picked. Of two with one name the first counts.
     ///
-    /// The calls of `pick` and `read` whose numbers, counted from 0, are in `failing` fail.
+    /// The calls of `pick` and `read` whose numbers, counted from 0, are in `failing` fail. The number stands
+    /// still at `u64::MAX`.
     pub fn new(files: Vec<NamedBytes>, failing: Vec<u64>) -> MemoryFiles
         ensures files { result.files ≡ files.items }
         ensures closed { result.is_open ≡ false }
@@ -75,10 +75,9 @@ impl MemoryFiles {
 }
 
 impl Files for MemoryFiles {
-    ghost use Rattle.arena_mem.specs.Outside.{HasCause, Opens, Blames};
+    ghost use Rattle.arena_mem.specs.Outside.{HasCause, Blames};
     ghost use Rattle.arena_mem.specs.Calls.{fails_next, after_call};
     ghost use Rattle.arena_mem.specs.MemoryFiles.{opened};
-    ghost use Rattle.std.specs.Io.KnownBytes.{ReadConsumes};
 
     ghost contents = { λ s. Some (named_files s.files) };
 
@@ -118,10 +117,13 @@ impl Files for MemoryFiles {
         ensures files { self.new.files ≡ self.old.files }
         ensures exact { is_err result ≡ fails_next self.old.calls }
         ensures count { IfOk result (λ count. count ≡ min (length room.old) (length self.old.left)) }
+
+        // Behind the bytes that were read, the room stays as it was.
         ensures read { IfOk result (λ count. room.new ≡ take count self.old.left ++ drop count room.old) }
         ensures rest { IfOk result (λ count. self.new.left ≡ drop count self.old.left) }
         ensures room_unchanged { OnErr result (room.new ≡ room.old) }
         ensures left_unchanged { OnErr result (self.new.left ≡ self.old.left) }
+
         ensures is_open { self.new.is_open ≡ self.old.is_open }
         ensures picked { self.new.names.picked ≡ self.old.names.picked }
         ensures blamed { Blames result self.new.names.picked self.old.names.blamed self.new.names.blamed }

@@ -30,7 +30,8 @@ impl MemorySink {
 
     /// Nothing is taken yet, and a call takes at most `per_call` bytes.
     ///
-    /// The calls of `write` whose numbers, counted from 0, are in `failing` fail.
+    /// The calls of `write` whose numbers, counted from 0, are in `failing` fail. The number stands still at
+    /// `u64::MAX`.
     pub fn new(alloc: Global, per_call: u32, failing: Vec<u64>) -> MemorySink
         requires { 1 ≤ per_call }
         ensures taken { result.taken ≡ [] }
