@@ -1,5 +1,5 @@
 // Blocks in one row of bytes, each known by where it starts.
-ghost use Rattle.std.specs.Prelude.{◌≡◌, ◌+◌, ◌*◌, ◌/◌, ◌<◌, ◌≤◌, List, [], ◌∷◌, ◌++◌, length, take, drop, replicate, get_or, OnOk, OnErr};
+ghost use Rattle.std.specs.Prelude.{◌≡◌, ◌+◌, ◌*◌, ◌/◌, ◌<◌, ◌≤◌, List, [], ◌∷◌, ◌++◌, length, take, drop, replicate, get_or, OnOk, OnErr, vec_len, vec_capacity};
 ghost use Rattle.arena_mem.specs.Places.{round8, splice, IsPlaceable};
 
 use arena_mem::NoMemory;
@@ -10,6 +10,24 @@ pub(crate) fn rounded(bytes: u32) -> u32
     ensures { result ≡ round8 bytes }
 {
     (bytes + 7) / 8 * 8
+}
+
+// How many bytes of address space a vector asks for at once, where it can have them. A page of it is taken when it is
+// first written, and a system that has huge pages can use them.
+const STEP_BYTES: usize = 2097152;
+
+// Makes room for `needed` more elements: for many at once where it can, else for just these.
+fn make_room<T>(items: &mut Vec<T>, needed: usize, step: usize) -> Result<(), NoMemory>
+    ensures items { items.new.items ≡ items.old.items }
+    ensures room { OnOk result (vec_len items.new + needed ≤ vec_capacity items.new) }
+{
+    if needed <= items.capacity() - items.len() {
+        return Ok(());
+    }
+    if items.reserve(needed.max(step)).is_err() {
+        items.reserve(needed)?;
+    }
+    Ok(())
 }
 
 // Adds a block of `len` zero bytes. Room is made in both vectors before either changes.
@@ -23,7 +41,8 @@ pub(crate) fn add_block(
     ensures unchanged { OnErr result ((starts.new.items ≡ starts.old.items) × (row.new.items ≡ row.old.items)) }
 {
     let start = row.len();
-    starts.reserve(1)?;
+    make_room(starts, 1, STEP_BYTES / 8)?;
+    make_room(row, len as usize, STEP_BYTES)?;
     row.resize(start + len as usize, 0)?;
     starts.push_reserved(start);
     Ok(())
