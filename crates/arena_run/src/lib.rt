@@ -7,6 +7,7 @@
 
 mod fault;
 mod input;
+mod laws;
 mod parse;
 mod piece;
 mod program;
@@ -16,4 +17,5 @@ mod words;
 mod write;
 
 pub use fault::Fault;
+pub use laws::plain_files;
 pub use program::{Outcome, run};
