@@ -11,6 +11,8 @@ mod laws;
 mod parse;
 mod piece;
 mod program;
+#[cfg(test)]
+mod tests;
 mod tick;
 mod wire;
 mod words;
