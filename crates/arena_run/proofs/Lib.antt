@@ -4,4 +4,5 @@ pub mod Groups
 pub mod Frames
 pub mod Reading
 pub mod Parsing
+pub mod PlainLaws
 pub mod Taken

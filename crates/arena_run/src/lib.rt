@@ -7,12 +7,16 @@
 
 mod fault;
 mod input;
+mod laws;
 mod parse;
 mod program;
+#[cfg(test)]
+mod tests;
 mod tick;
 mod wire;
 mod words;
 mod write;
 
 pub use fault::Fault;
+pub use laws::plain_files;
 pub use program::{Outcome, run};
