@@ -5,3 +5,4 @@ pub mod Frames
 pub mod Reading
 pub mod Parsing
 pub mod Taken
+pub mod Counted

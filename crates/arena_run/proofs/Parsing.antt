@@ -67,11 +67,11 @@ no_trees [] (t ∷ ts) p qs d none = absurd d
 no_trees (q ∷ ps) [] p qs d none = absurd d
 no_trees (q ∷ ps) (t ∷ ts) p qs d none = head_tree q (ps ++ p ∷ qs) t d.0 ∙ ap (option_map (λ trees. t ∷ trees)) (no_trees ps ts p qs d.1 none)
 
-trees_in-Err : (bytes : List ℕ) (cut : ℕ) → frames_of bytes ≡ Err cut → trees_in bytes ≡ None
+pub trees_in-Err : (bytes : List ℕ) (cut : ℕ) → frames_of bytes ≡ Err cut → trees_in bytes ≡ None
 unfolding trees_in
 trees_in-Err bytes cut e = ap (λ (r : Result (List (List ℕ)) ℕ). elim r as (λ _. Option (List Tree)) [ Ok payloads ↦ trees_within payloads | Err k ↦ None ]) e
 
-trees_in-Ok : (bytes : List ℕ) (ps : List (List ℕ)) → frames_of bytes ≡ Ok ps → trees_in bytes ≡ trees_within ps
+pub trees_in-Ok : (bytes : List ℕ) (ps : List (List ℕ)) → frames_of bytes ≡ Ok ps → trees_in bytes ≡ trees_within ps
 unfolding trees_in
 trees_in-Ok bytes ps e = ap (λ (r : Result (List (List ℕ)) ℕ). elim r as (λ _. Option (List Tree)) [ Ok payloads ↦ trees_within payloads | Err k ↦ None ]) e
 
