@@ -20,9 +20,9 @@ prefix_put before after filled end v is_set room behind within text_put =
     let text = 8 ∷ varint_of v in
     let size : length was ≡ filled = length-take-le filled before (omega arith) in
     let tag : take (filled + 2) (set before (filled + 1) 8) ≡ (was ++ hole ∷ []) ++ 8 ∷ [] =
-      ap (λ n. take n (set before (filled + 1) 8)) (two filled) ∙ take_more_set before (filled + 1) 8 (omega arith) ∙ ap (λ bs. bs ++ 8 ∷ []) (take_more before filled 0 (omega arith)) in
+    ap (λ n. take n (set before (filled + 1) 8)) (two filled) ∙ take_more_set before (filled + 1) 8 (omega arith) ∙ ap (λ bs. bs ++ 8 ∷ []) (take_more before filled 0 (omega arith)) in
     let whole : take end after ≡ was ++ hole ∷ text =
-      text_put ∙ ap (λ bs. bs ++ varint_of v) tag ∙ append_assoc (was ++ hole ∷ []) (8 ∷ []) (varint_of v) ∙ append_assoc was (hole ∷ []) text in
+    text_put ∙ ap (λ bs. bs ++ varint_of v) tag ∙ append_assoc (was ++ hole ∷ []) (8 ∷ []) (varint_of v) ∙ append_assoc was (hole ∷ []) text in
     let total : end ≡ length was + suc (length text) = sym (length-take-le end after within) ∙ ap length whole ∙ length-append was (hole ∷ text) in
     let short : end - filled - 1 ≡ length text = omega arith in
     take-set-lt end after filled (end - filled - 1) behind ∙ ap (λ n. set (take end after) filled n) short ∙ ap (λ bs. set bs filled (length text)) whole ∙ set_at was hole text (length text) filled size

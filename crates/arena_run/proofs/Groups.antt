@@ -34,7 +34,7 @@ one_group_more was all now then rest so_far big pushed =
       few = omega arith;
       small = subst (λ n. rest / 128 < 2 ^ (7 * (9 - n) + 1)) (sym next) (groups_fit (9 - suc k) rest (subst (λ m. rest < 2 ^ (7 * m + 1)) (one_less k few) so_far.small));
       text = ap (λ n. then ++ groups (9 - n) (rest / 128)) next ∙ ap (λ bs. bs ++ groups (9 - suc k) (rest / 128)) pushed ∙ append_assoc now group (groups (9 - suc k) (rest / 128))
-      ∙ ap (λ gs. now ++ gs) (sym (ap (λ m. groups m rest) (one_less k few) ∙ groups_more (9 - suc k) rest big)) ∙ so_far.text
+          ∙ ap (λ gs. now ++ gs) (sym (ap (λ m. groups m rest) (one_less k few) ∙ groups_more (9 - suc k) rest big)) ∙ so_far.text;
     }
 
 pub last_group_put : (was all now then : List ℕ) (rest : ℕ) → Groups was all now rest → rest < 128 → then ≡ now ++ rest ∷ [] → then ≡ all

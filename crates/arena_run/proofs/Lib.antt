@@ -6,3 +6,4 @@ pub mod Reading
 pub mod Parsing
 pub mod PlainLaws
 pub mod Taken
+pub mod Counted

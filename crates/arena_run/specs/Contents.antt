@@ -1,5 +1,5 @@
 -- What a file holds, where the files tell it.
-use Rattle.std.specs.Prelude.{ℕ, List, Option, IfSome, IsSomeAnd, option_and_then}
+use Rattle.std.specs.Prelude.{ℕ, List, Option, None, Some, IsSome, IfSome, IsSomeAnd, option_and_then, ⊤}
 use Rattle.std.specs.FinMap as map
 use Rattle.arena_mem.specs.Outside.{NamedFiles}
 use Rattle.pb_schema.specs.Tree.{Tree}
@@ -17,3 +17,8 @@ OfContent words files P = (frames : List ℕ) → IsCat words frames → IfSome 
 -- that file is plain, and its trees have this, where the files tell its content
 abbrev pub OfTrees : List (List ℕ) → Option NamedFiles → (List Tree → Type 0) → Type 0
 OfTrees words files P = OfContent words files (λ content. IsSomeAnd (trees_of content) P)
+
+-- there is a file of that name, where the files tell which there are
+abbrev pub IsThere : Option NamedFiles → List ℕ → Type 0
+IsThere None name = ⊤
+IsThere (Some files) name = IsSome (map.get files name)

@@ -37,3 +37,11 @@ EndsWell (Some NoMemory) = ⊤
 EndsWell (Some ReadFault) = ⊥
 EndsWell (Some WriteFault) = ⊥
 EndsWell (Some NotBuilt) = ⊥
+
+-- the frames file was read: the run ended by what it holds, or by writing
+abbrev pub IsRead : Option Fault → Type 0
+IsRead None = ⊤
+IsRead (Some NoMemory) = ⊥
+IsRead (Some ReadFault) = ⊥
+IsRead (Some WriteFault) = ⊤
+IsRead (Some NotBuilt) = ⊤

@@ -2,7 +2,7 @@
 ghost use Rattle.std.specs.Prelude.{◌≡◌, [], ◌+◌, ◌^◌, ◌<◌, ◌≤◌, ℕ, List, Some, length, IsTrue, IfOk, IfSome, IsErrOf};
 ghost use Rattle.std.specs.String.{string_bytes};
 ghost use Rattle.arena_mem.specs.Outside.{Rose};
-ghost use Rattle.arena_run.specs.Contents.{content_of};
+ghost use Rattle.arena_run.specs.Contents.{content_of, IsThere};
 
 use arena_mem::Files;
 use std::alloc::Global;
@@ -26,6 +26,13 @@ pub enum ReadEnd {
 
 /// Reads all of the file of that name, where it isn't above the limit.
 pub fn read_file<F: Files>(alloc: Global, files: &mut F, name: String) -> Result<Vec<u8>, ReadEnd>
+    ensures contents { F.contents files.new ≡ F.contents files.old }
+    ensures counts { F.faults files.old ≤ F.faults files.new }
+    ensures there_ok { IfOk result (λ _. IsThere (F.contents files.old) (string_bytes name)) }
+    ensures there_long { IsErrOf result ReadEnd.TooLong → IsThere (F.contents files.old) (string_bytes name) }
+    ensures unblamed_ok { IfOk result (λ _. F.blamed files.new ≡ F.blamed files.old) }
+    ensures unblamed_long { IsErrOf result ReadEnd.TooLong → F.blamed files.new ≡ F.blamed files.old }
+    ensures unblamed_memory { IsErrOf result ReadEnd.NoMemory → F.blamed files.new ≡ F.blamed files.old }
     ensures content { IfOk result (λ bytes. IfSome (content_of (F.contents files.old) (string_bytes name)) (λ content. bytes.items ≡ content)) }
     ensures limit { IfOk result (λ bytes. length bytes.items ≤ 2 ^ 24) }
     ensures too_long { IsErrOf result ReadEnd.TooLong → IfSome (content_of (F.contents files.old) (string_bytes name)) (λ content. 2 ^ 24 < length content) }
@@ -41,6 +48,11 @@ pub fn read_file<F: Files>(alloc: Global, files: &mut F, name: String) -> Result
 // Reads all that is left of the picked file.
 fn read_picked<F: Files>(alloc: Global, files: &mut F) -> Result<Vec<u8>, ReadEnd>
     requires { IsTrue (F.is_open files.old) }
+    ensures contents { F.contents files.new ≡ F.contents files.old }
+    ensures counts { F.faults files.old ≤ F.faults files.new }
+    ensures unblamed_ok { IfOk result (λ _. F.blamed files.new ≡ F.blamed files.old) }
+    ensures unblamed_long { IsErrOf result ReadEnd.TooLong → F.blamed files.new ≡ F.blamed files.old }
+    ensures unblamed_memory { IsErrOf result ReadEnd.NoMemory → F.blamed files.new ≡ F.blamed files.old }
     ensures content { IfOk result (λ bytes. IfSome (F.left files.old) (λ content. bytes.items ≡ content)) }
     ensures limit { IfOk result (λ bytes. length bytes.items ≤ 2 ^ 24) }
     ensures too_long { IsErrOf result ReadEnd.TooLong → IfSome (F.left files.old) (λ content. 2 ^ 24 < length content) }

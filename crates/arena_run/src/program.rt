@@ -1,5 +1,7 @@
 // The top call, and the outcome of a run.
-ghost use Rattle.std.specs.Prelude.{◌≡◌, ◌⊎◌, ℕ, List, [], None, Some, Err, map, IfOk, IfErr, IfNone, IsSome, IsErrOf};
+ghost use Rattle.std.specs.Prelude.{◌≡◌, ◌⊎◌, ◌≤◌, ℕ, List, [], None, Some, Err, map, IfOk, IfErr, IfNone, IsSome, IsErrOf};
+ghost use Rattle.std.specs.FinMap as finite;
+ghost use Rattle.std.specs.Prelude.{◌+◌, length};
 ghost use Rattle.std.specs.String.{string_bytes};
 ghost use Rattle.std.specs.Io.KnownBytes.{Appends, Keeps};
 ghost use Rattle.arena_mem.specs.Places.{KeepsRest, Apart};
@@ -8,8 +10,8 @@ ghost use Rattle.serial_arena.specs.Serial.{places_of, buffers_of, IsUnused};
 ghost use Rattle.serial_arena.specs.Key.{key_of};
 ghost use Rattle.pb_schema.specs.Tree.{Tree};
 ghost use Rattle.arena_run.specs.Words.{IsCat, IsOtherCommand};
-ghost use Rattle.arena_run.specs.Contents.{content_of, OfContent, OfTrees};
-ghost use Rattle.arena_run.specs.Ends.{status_of, IsParsed, IsUnparsed, EndsWell};
+ghost use Rattle.arena_run.specs.Contents.{content_of, OfContent, OfTrees, IsThere};
+ghost use Rattle.arena_run.specs.Ends.{status_of, IsParsed, IsUnparsed, IsRead, EndsWell};
 ghost use Rattle.arena_run.specs.Plain.{trees_of};
 ghost use Rattle.arena_run.specs.Stands.{AllStand, EachTwo, Differ};
 ghost use Rattle.arena_run.specs.Written.{output_of, TookPart};
@@ -51,26 +53,40 @@ pub fn run<F: Files, O: Sink>(
 
     // Where all goes well, the sink took the framed texts of the decoded payloads, in order, and nothing else; where it
     // fails, a front of them and not all; on every other fault it was never called.
+    ensures command { IsParsed result.fault → (frames : List ℕ) × IsCat (map string_bytes words.now) frames }
     ensures bytes { IfNone result.fault (OfTrees (map string_bytes words.now) (F.contents files.old) (λ trees. Appends (O.taken out.old) (O.taken out.new) (output_of trees))) }
     ensures prefix { result.fault ≡ Some Fault.WriteFault → OfTrees (map string_bytes words.now) (F.contents files.old) (λ trees. TookPart (O.taken out.old) (O.taken out.new) (output_of trees)) }
     ensures nothing_written { IsUnparsed result.fault → out.new ≡ out.old }
 
-    // In both of these each register stands for the tree of its frame in the arena that is handed back. No two
-    // registers share a byte. On every other fault there are none.
+    // In both of these each register stands for the tree of its frame in the arena that is handed back, no two
+    // registers share a byte, and nothing else was placed. On every other fault there are none.
     ensures registers { IsParsed result.fault → OfTrees (map string_bytes words.now) (F.contents files.old) (AllStand (places_of result.arena) result.registers.items) }
-    ensures stand { (trees : List Tree) × AllStand (places_of result.arena) result.registers.items trees }
     ensures apart { EachTwo Apart result.registers.items }
+    ensures only { IsParsed result.fault → finite.len (places_of result.arena) ≡ length result.registers.items }
     ensures no_registers { IsUnparsed result.fault → result.registers.items ≡ [] }
 
-    // `NotBuilt` comes exactly where the words or the file ask for it; the file's side yields to what comes before it.
+    // Whatever the files tell, the registers stand for trees, and what the sink took is the text of these.
+    ensures stand { (trees : List Tree) × AllStand (places_of result.arena) result.registers.items trees }
+    ensures wrote { (trees : List Tree) → AllStand (places_of result.arena) result.registers.items trees → IfNone result.fault (Appends (O.taken out.old) (O.taken out.new) (output_of trees)) }
+    ensures wrote_part { (trees : List Tree) → AllStand (places_of result.arena) result.registers.items trees → result.fault ≡ Some Fault.WriteFault → TookPart (O.taken out.old) (O.taken out.new) (output_of trees) }
+
+    // `NotBuilt` comes exactly where the words or the file ask for it. The words come first, and nothing is picked or
+    // read then; the file's side yields to want of memory and to a fault of reading.
     ensures not_built { result.fault ≡ Some Fault.NotBuilt → IsOtherCommand (map string_bytes words.now) ⊎ OfContent (map string_bytes words.now) (F.contents files.old) (λ content. trees_of content ≡ None) }
     ensures other_command { IsOtherCommand (map string_bytes words.now) → result.fault ≡ Some Fault.NotBuilt }
+    ensures untouched { IsOtherCommand (map string_bytes words.now) → files.new ≡ files.old }
     ensures not_plain { (frames content : List ℕ) → IsCat (map string_bytes words.now) frames → content_of (F.contents files.old) frames ≡ Some content → trees_of content ≡ None → IsUnparsed result.fault }
+    ensures there { (frames : List ℕ) → IsCat (map string_bytes words.now) frames → IsRead result.fault → IsThere (F.contents files.old) frames }
 
-    // A fault of the files or of the sink comes only where its count rose in this call.
+    // A fault of the files or of the sink comes only where its count rose in this call. No count falls. Where no
+    // fault of reading is answered, no other name is blamed than before.
     ensures read_fault { result.fault ≡ Some Fault.ReadFault → Rose (F.faults files.old) (F.faults files.new) }
     ensures blamed { result.fault ≡ Some Fault.ReadFault → (frames : List ℕ) × IsCat (map string_bytes words.now) frames × (F.blamed files.new ≡ Some frames) }
+    ensures unblamed { (result.fault ≡ Some Fault.ReadFault → ⊥) → F.blamed files.new ≡ F.blamed files.old }
     ensures write_fault { result.fault ≡ Some Fault.WriteFault → Rose (O.faults out.old) (O.faults out.new) }
+    ensures counts { F.faults files.old ≤ F.faults files.new }
+    ensures sink_counts { O.faults out.old ≤ O.faults out.new }
+    ensures contents { F.contents files.new ≡ F.contents files.old }
 
     // A plain file that is there ends well, or in want of memory, where nothing failed.
     ensures complete { (frames content : List ℕ) → IsCat (map string_bytes words.now) frames → content_of (F.contents files.old) frames ≡ Some content → IsSome (trees_of content)
@@ -112,9 +128,17 @@ fn read_messages<F: Files, M: Memory>(
     mem: &mut M,
 ) -> Result<Vec<Place>, Fault>
     requires { (region : ℕ) → M.blocks mem.old region ≡ 0 }
+    ensures contents { F.contents files.new ≡ F.contents files.old }
+    ensures counts { F.faults files.old ≤ F.faults files.new }
+    ensures there_ok { (frames : List ℕ) → IsCat (map string_bytes words.now) frames → IfOk result (λ _. IsThere (F.contents files.old) frames) }
+    ensures there_built { (frames : List ℕ) → IsCat (map string_bytes words.now) frames → IsErrOf result Fault.NotBuilt → IsThere (F.contents files.old) frames }
+    ensures unblamed_ok { IfOk result (λ _. F.blamed files.new ≡ F.blamed files.old) }
+    ensures unblamed { IfErr result (λ e. (e ≡ Fault.ReadFault → ⊥) → F.blamed files.new ≡ F.blamed files.old) }
+    ensures untouched { IsOtherCommand (map string_bytes words.now) → files.new ≡ files.old }
     ensures command { IfOk result (λ _. (frames : List ℕ) × IsCat (map string_bytes words.now) frames) }
     ensures stand { IfOk result (λ messages. OfTrees (map string_bytes words.now) (F.contents files.old) (AllStand (M.places mem.new) messages.items)) }
     ensures stands { IfOk result (λ messages. (trees : List Tree) × AllStand (M.places mem.new) messages.items trees) }
+    ensures counted { IfOk result (λ messages. finite.len (M.places mem.new) ≡ finite.len (M.places mem.old) + length messages.items) }
     ensures differ { IfOk result (λ messages. EachTwo Differ messages.items) }
     ensures not_built { IsErrOf result Fault.NotBuilt → IsOtherCommand (map string_bytes words.now) ⊎ OfContent (map string_bytes words.now) (F.contents files.old) (λ content. trees_of content ≡ None) }
     ensures other_command { IsOtherCommand (map string_bytes words.now) → result ≡ Err Fault.NotBuilt }
@@ -155,12 +179,21 @@ fn cat<F: Files, O: Sink, M: Memory>(
     mem: &mut M,
 ) -> (Option<Fault>, Vec<Place>)
     requires { (region : ℕ) → M.blocks mem.old region ≡ 0 }
+    ensures contents { F.contents files.new ≡ F.contents files.old }
+    ensures counts { F.faults files.old ≤ F.faults files.new }
+    ensures sink_counts { O.faults out.old ≤ O.faults out.new }
+    ensures there { (frames : List ℕ) → IsCat (map string_bytes words.now) frames → IsRead result.0 → IsThere (F.contents files.old) frames }
+    ensures unblamed { (result.0 ≡ Some Fault.ReadFault → ⊥) → F.blamed files.new ≡ F.blamed files.old }
+    ensures untouched { IsOtherCommand (map string_bytes words.now) → files.new ≡ files.old }
+    ensures wrote { (trees : List Tree) → AllStand (M.places mem.new) result.1.items trees → IfNone result.0 (Appends (O.taken out.old) (O.taken out.new) (output_of trees)) }
+    ensures wrote_part { (trees : List Tree) → AllStand (M.places mem.new) result.1.items trees → result.0 ≡ Some Fault.WriteFault → TookPart (O.taken out.old) (O.taken out.new) (output_of trees) }
     ensures command { IsParsed result.0 → (frames : List ℕ) × IsCat (map string_bytes words.now) frames }
     ensures bytes { IfNone result.0 (OfTrees (map string_bytes words.now) (F.contents files.old) (λ trees. Appends (O.taken out.old) (O.taken out.new) (output_of trees))) }
     ensures prefix { result.0 ≡ Some Fault.WriteFault → OfTrees (map string_bytes words.now) (F.contents files.old) (λ trees. TookPart (O.taken out.old) (O.taken out.new) (output_of trees)) }
     ensures nothing_written { IsUnparsed result.0 → out.new ≡ out.old }
     ensures registers { IsParsed result.0 → OfTrees (map string_bytes words.now) (F.contents files.old) (AllStand (M.places mem.new) result.1.items) }
     ensures stand { (trees : List Tree) × AllStand (M.places mem.new) result.1.items trees }
+    ensures counted { IsParsed result.0 → finite.len (M.places mem.new) ≡ finite.len (M.places mem.old) + length result.1.items }
     ensures differ { EachTwo Differ result.1.items }
     ensures no_registers { IsUnparsed result.0 → result.1.items ≡ [] }
     ensures not_built { result.0 ≡ Some Fault.NotBuilt → IsOtherCommand (map string_bytes words.now) ⊎ OfContent (map string_bytes words.now) (F.contents files.old) (λ content. trees_of content ≡ None) }

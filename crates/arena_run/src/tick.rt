@@ -18,6 +18,7 @@ pub fn create<M: Memory>(mem: &mut M, value: u64) -> Result<Place, NoMemory>
     ensures key { M.key mem.new ≡ M.key mem.old }
     ensures fresh { IfOk result (λ p. map.get (M.places mem.old) p ≡ None) }
     ensures stands { IfOk result (λ p. Stands (M.places mem.new) p (tick value)) }
+    ensures counted { IfOk result (λ _. map.len (M.places mem.new) ≡ map.len (M.places mem.old) + 1) }
     ensures rest { KeepsRest (M.places mem.old) (M.places mem.new) }
     ensures buffers { M.buffers mem.new ≡ M.buffers mem.old }
     ensures block_counts { AddsAtMostABlock (M.blocks mem.old) (M.blocks mem.new) }

@@ -17,7 +17,7 @@ use Rattle.serial_arena.specs.Serial.{Placement, SerialState, place_in, numbered
 use Rattle.serial_arena.proofs.Numbered.{IsNumbered, altered, get_inserted, get_beside, stays_there, keeps_rest, get_next, from_entries_next, stands, one_key, from_entries-altered, len_all}
 
 -- ---- the orders
-places_total : IsTotalOrder place_cmp
+pub places_total : IsTotalOrder place_cmp
 places_total = then_total (on_total (λ p. p.region) nat_cmp_total) (then_total (on_total (λ p. p.block) nat_cmp_total) (then_total (on_total (λ p. p.offset) nat_cmp_total) (on_total (λ p. p.len) nat_cmp_total)))
 
 -- places that compare alike are one

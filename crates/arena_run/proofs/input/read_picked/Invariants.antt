@@ -9,6 +9,8 @@ invariant-loop-room g l =
     record {
       is_open : IsTrue (F.is_open l.files);
       picked : F.picked l.files ≡ F.picked l.fn.files;
+      contents : F.contents l.files ≡ F.contents l.fn.files;
+      blamed : F.blamed l.files ≡ F.blamed l.fn.files;
       faults : F.faults l.fn.files ≤ F.faults l.files;
       bytes : Consumes (F.left l.fn.files) (F.left l.files) l.bytes.items;
       limit : length l.bytes.items ≤ 2 ^ 24 + 1;

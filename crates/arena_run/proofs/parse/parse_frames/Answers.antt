@@ -16,6 +16,7 @@ loop-at-init g c =
       few = omega arith;
       parsed = subst (ParsedTo c.args.bytes.now 0 (g.M.Memory.places c.args.mem.now)) (sym none) (parsed_none c.args.bytes.now (g.M.Memory.places c.args.mem.now));
       blocks = λ region. omega (arith, c.requires region);
+      counted = omega (arith, count);
       key = refl;
       rest = λ q was found. found;
       buffers = refl;
@@ -58,6 +59,7 @@ loop-at-preserved g c =
       parsed = subst (λ k. ParsedTo bytes k (M.places c.create.new.mem) c.push.new.self.items) (sym found.end_is)
           (subst (ParsedTo bytes (at + found.bytes) (M.places c.create.new.mem)) (sym pushed) parsed);
       blocks = λ region. subst (λ n. M.blocks c.create.new.mem region ≤ n) (sym count) (blocks_within (M.blocks c.loop-at.mem) (M.blocks c.create.new.mem) (length before) c.create.ensures.block_counts c.loop-at.invariant.blocks region);
+      counted = omega (arith, c.in-Ok.ensures.counted, c.loop-at.invariant.counted, count);
       key = c.create.ensures.key ∙ c.loop-at.invariant.key;
       rest = λ q was live. c.create.ensures.rest q was (c.loop-at.invariant.rest q was live);
       buffers = c.create.ensures.buffers ∙ c.loop-at.invariant.buffers;

@@ -1,4 +1,5 @@
-use Rattle.std.proofs.Common.{◌≡◌, ◌-◌, ◌^◌, ◌≤◌, ℕ, length}
+use Rattle.std.specs.FinMap as finite
+use Rattle.std.proofs.Common.{◌≡◌, ◌+◌, ◌-◌, ◌^◌, ◌≤◌, ℕ, length}
 use Rattle.arena_mem.specs.Places.{KeepsRest}
 use Rattle.arena_run.proofs.Parsing.{ParsedTo}
 use Rattle.arena_run.proofs.parse.parse_frames.Given as goal
@@ -11,6 +12,7 @@ invariant-loop-at g l =
       few : length l.messages.items ≤ 2 ^ 20;
       parsed : ParsedTo l.bytes l.at (M.places l.mem) l.messages.items;
       blocks : (region : ℕ) → M.blocks l.mem region ≤ length l.messages.items;
+      counted : finite.len (M.places l.mem) ≡ finite.len (M.places l.fn.mem) + length l.messages.items;
       key : M.key l.mem ≡ M.key l.fn.mem;
       rest : KeepsRest (M.places l.fn.mem) (M.places l.mem);
       buffers : M.buffers l.mem ≡ M.buffers l.fn.mem;

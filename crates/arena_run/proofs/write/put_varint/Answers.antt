@@ -18,7 +18,7 @@ loop-rest-preserved c =
       groups = next;
       room = omega (arith, at.room, length-set buffer end (c.loop-rest.rest % 128 + 128));
       from = omega (arith, at.from);
-      to = omega (arith, next.few, next.longer)
+      to = omega (arith, next.few, next.longer);
     }
 
 pub returns-clause-spelled : goal.returns-clause-spelled
