@@ -1,12 +1,12 @@
 -- How many places are live.
-use Rattle.std.proofs.Common.{◌≡◌, ◌+◌, ℕ, cond, List, Option, None, Some, refl, sym, ap, ◌∙◌, replicate}
+use Rattle.std.proofs.Common.{◌≡◌, ◌+◌, ℕ, cond, List, Option, None, Some, ap, ◌∙◌}
 use Rattle.std.specs.Prelude.{is_some, []}
 use Rattle.std.specs.Option.{option_map}
 use Rattle.std.specs.FinMap as map
 use Rattle.arena_mem.specs.declared.place.Place.{Place}
 use Rattle.arena_mem.specs.Places.{Places, replaced, written, splice}
 use Rattle.serial_arena.proofs.Names.{places_total}
-use Rattle.serial_arena.specs.Serial.{SerialState, Placement, place_in, places_of}
+use Rattle.serial_arena.specs.Serial.{SerialState, places_of}
 
 pub len_placed : (old new : Places) (p : Place) (bytes : List ℕ) → map.get old p ≡ None → new ≡ map.insert old p bytes → map.len new ≡ map.len old + 1
 len_placed old new p bytes free e =

@@ -1,6 +1,6 @@
 -- The frame of a message as it is built: its prefix is put in last.
-use Rattle.std.proofs.Common.{◌≡◌, ◌+◌, ◌-◌, ◌^◌, ◌<◌, ◌≤◌, ℕ, zero, suc, List, [], ◌∷◌, ◌++◌, length, get_or, take, set, refl, sym, ap, ◌∙◌, subst, append_assoc, length-append, arith}
-use Rattle.std.proofs.lemmas.List.{set_at, length_push, length-take-le, take_more, take_more_set}
+use Rattle.std.proofs.Common.{◌≡◌, ◌+◌, ◌-◌, ◌<◌, ◌≤◌, ℕ, zero, suc, List, [], ◌∷◌, ◌++◌, length, get_or, take, set, refl, sym, ap, ◌∙◌, append_assoc, length-append, arith}
+use Rattle.std.proofs.lemmas.List.{set_at, length-take-le, take_more, take_more_set}
 use Rattle.std.proofs.Math.Seq.{take-set-lt}
 use Rattle.pb_schema.specs.Tree.{tick}
 use Rattle.pb_schema.specs.Text.{varint_of, text_of, framed}

@@ -1,5 +1,5 @@
 -- What records stand for.
-use Rattle.std.proofs.Common.{◌≡◌, ◌+◌, ◌^◌, ◌<◌, ◌≤◌, ℕ, zero, suc, List, [], ◌∷◌, ◌++◌, length, take, drop, replicate, Option, Some, refl, sym, ap, ◌∙◌, subst, arith, w64}
+use Rattle.std.proofs.Common.{◌≡◌, ◌^◌, ◌<◌, ◌≤◌, ℕ, zero, suc, List, length, take, drop, replicate, Option, Some, refl, sym, ap, ◌∙◌, subst, arith, w64}
 use Rattle.std.specs.Prelude.{IsSomeAnd}
 use Rattle.std.specs.Int.{to_le_bytes, from_le_bytes}
 use Rattle.std.specs.Option.{option_map}
@@ -7,9 +7,9 @@ use Rattle.std.specs.FinMap as map
 use Rattle.std.proofs.lemmas.Nat.{from_le_bytes-to_le_bytes_8}
 use Rattle.std.proofs.lemmas.List.{take_all, length-drop}
 use Rattle.arena_mem.specs.declared.place.Place.{Place}
-use Rattle.arena_mem.specs.Places.{Places, splice, KeepsRest}
-use Rattle.pb_schema.specs.Tree.{Tree, tick, number_of, held, number_in}
-use Rattle.arena_run.specs.Stands.{slot_number, IsRecordOf, Stands, AllStand}
+use Rattle.arena_mem.specs.Places.{Places, splice}
+use Rattle.pb_schema.specs.Tree.{Tree, tick, number_of}
+use Rattle.arena_run.specs.Stands.{slot_number, IsRecordOf, Stands}
 
 -- zero bytes are the empty message
 zeros_are_empty : IsRecordOf (replicate 32 0) (tick 0)

@@ -1,5 +1,5 @@
 -- How a run ends.
-use Rattle.std.specs.Prelude.{◌≡◌, ℕ, Option, None, Some, ⊤}
+use Rattle.std.specs.Prelude.{ℕ, Option, None, Some, ⊤}
 use Rattle.arena_run.specs.declared.fault.Fault.{Fault}
 use Rattle.arena_run.specs.declared.fault.Fault.TheVariants.{NoMemory, ReadFault, WriteFault, NotBuilt}
 

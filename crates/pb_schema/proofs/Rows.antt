@@ -3,7 +3,7 @@ use Rattle.std.proofs.Common.{◌≡◌, ◌-◌, ◌^◌, ℕ, List, [], ◌∷
 use Rattle.pb_schema.specs.Varint.{varint_at}
 use Rattle.pb_schema.specs.Frames.{frame_at, frames_of}
 use Rattle.pb_schema.specs.Records.{values_of}
-use Rattle.pb_schema.specs.Tree.{tick, Nothing, One}
+use Rattle.pb_schema.specs.Tree.{tick, empty, Nothing, One}
 use Rattle.pb_schema.specs.Decode.{tree_of}
 use Rattle.pb_schema.specs.Text.{text_of, framed}
 
@@ -145,3 +145,6 @@ two_bytes = refl
 
 the_highest_bit : framed (text_of (tick (2 ^ 63))) ≡ 11 ∷ 8 ∷ 128 ∷ 128 ∷ 128 ∷ 128 ∷ 128 ∷ 128 ∷ 128 ∷ 128 ∷ 128 ∷ 1 ∷ []
 the_highest_bit = refl
+
+no_bytes_are_the_empty_message : tree_of [] ≡ Some empty
+no_bytes_are_the_empty_message = refl

@@ -1,4 +1,4 @@
-use Rattle.std.proofs.Common.{◌≡◌, ◌+◌, ◌≤◌, ◌++◌, [], ◌∷◌, ℕ, cond, List, length, drop, refl, sym, ap, ◌∙◌, subst, arith}
+use Rattle.std.proofs.Common.{◌≡◌, ◌+◌, ◌≤◌, ◌++◌, [], ◌∷◌, cond, List, length, drop, refl, sym, ap, ◌∙◌, subst, arith}
 use Rattle.arena_mem.specs.declared.place.Place.{Place}
 use Rattle.std.proofs.lemmas.List.{length_push}
 use Rattle.pb_schema.specs.Frames.{frame_at}
@@ -15,7 +15,7 @@ loop-at-init g c =
       within = omega arith;
       few = omega arith;
       parsed = subst (ParsedTo c.args.bytes.now 0 (g.M.Memory.places c.args.mem.now)) (sym none) (parsed_none c.args.bytes.now (g.M.Memory.places c.args.mem.now));
-      blocks = λ region. omega (arith, c.requires region);
+      block_counts = λ region. omega (arith, c.requires region);
       counted = omega (arith, count);
       key = refl;
       rest = λ q was found. found;
@@ -58,7 +58,7 @@ loop-at-preserved g c =
       few = omega (arith, c.loop-at.messages.ok.0);
       parsed = subst (λ k. ParsedTo bytes k (M.places c.create.new.mem) c.push.new.self.items) (sym found.end_is)
           (subst (ParsedTo bytes (at + found.bytes) (M.places c.create.new.mem)) (sym pushed) parsed);
-      blocks = λ region. subst (λ n. M.blocks c.create.new.mem region ≤ n) (sym count) (blocks_within (M.blocks c.loop-at.mem) (M.blocks c.create.new.mem) (length before) c.create.ensures.block_counts c.loop-at.invariant.blocks region);
+      block_counts = λ region. subst (λ n. M.blocks c.create.new.mem region ≤ n) (sym count) (blocks_within (M.blocks c.loop-at.mem) (M.blocks c.create.new.mem) (length before) c.create.ensures.block_counts c.loop-at.invariant.block_counts region);
       counted = omega (arith, c.in-Ok.ensures.counted, c.loop-at.invariant.counted, count);
       key = c.create.ensures.key ∙ c.loop-at.invariant.key;
       rest = λ q was live. c.create.ensures.rest q was (c.loop-at.invariant.rest q was live);

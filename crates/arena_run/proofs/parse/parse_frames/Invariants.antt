@@ -11,7 +11,7 @@ invariant-loop-at g l =
       within : l.at ≤ length l.bytes;
       few : length l.messages.items ≤ 2 ^ 20;
       parsed : ParsedTo l.bytes l.at (M.places l.mem) l.messages.items;
-      blocks : (region : ℕ) → M.blocks l.mem region ≤ length l.messages.items;
+      block_counts : (region : ℕ) → M.blocks l.mem region ≤ length l.messages.items;
       counted : finite.len (M.places l.mem) ≡ finite.len (M.places l.fn.mem) + length l.messages.items;
       key : M.key l.mem ≡ M.key l.fn.mem;
       rest : KeepsRest (M.places l.fn.mem) (M.places l.mem);

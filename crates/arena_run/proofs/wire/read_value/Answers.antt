@@ -1,4 +1,4 @@
-use Rattle.std.proofs.Common.{◌≡◌, ◌+◌, ap, sym, ◌∙◌, drop, None, arith}
+use Rattle.std.proofs.Common.{ap, sym, ◌∙◌, drop, arith}
 use Rattle.std.specs.Option.{option_map}
 use Rattle.pb_schema.specs.Records.{record_at}
 use Rattle.pb_schema.specs.Tree.{tick}

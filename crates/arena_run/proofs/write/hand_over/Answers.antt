@@ -1,4 +1,4 @@
-use Rattle.std.proofs.Common.{◌+◌, arith}
+use Rattle.std.proofs.Common.{arith}
 use Rattle.std.proofs.lemmas.List.{take_rest}
 use Rattle.arena_run.proofs.Taken.{took_more}
 use Rattle.arena_run.proofs.write.hand_over.Goals as goal

@@ -1,4 +1,4 @@
-use Rattle.std.proofs.Common.{◌≡◌, ◌+◌, ◌<◌, ◌≤◌, length, take, ◌%◌, ap, ◌∙◌, arith}
+use Rattle.std.proofs.Common.{◌+◌, ◌<◌, length, take, ◌%◌, ap, ◌∙◌, arith}
 use Rattle.std.proofs.lemmas.List.{take_more_set, length-take-le, length-set, length_push}
 use Rattle.arena_run.proofs.Groups.{one_group_more, last_group_put}
 use Rattle.arena_run.proofs.write.put_varint.Goals as goal

@@ -1,4 +1,4 @@
-use Rattle.std.proofs.Common.{◌≡◌, ◌+◌, ◌-◌, ◌≤◌, ◌++◌, length, take}
+use Rattle.std.proofs.Common.{◌+◌, ◌≤◌, ◌++◌, length, take}
 use Rattle.pb_schema.specs.Text.{varint_of}
 use Rattle.arena_run.proofs.Groups.{Groups}
 use Rattle.arena_run.proofs.write.put_varint.Given as goal

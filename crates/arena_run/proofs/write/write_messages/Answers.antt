@@ -1,12 +1,12 @@
-use Rattle.std.proofs.Common.{◌≡◌, ◌+◌, ◌≤◌, ℕ, List, length, take, Result, Ok, Err, arith, sym, ap, ◌∙◌, append-nil}
+use Rattle.std.proofs.Common.{◌≡◌, ◌≤◌, ℕ, List, length, take, Result, Ok, Err, arith, sym, ap, ◌∙◌, append-nil}
 use Rattle.std.specs.Prelude.{OnErr}
-use Rattle.std.specs.Io.KnownBytes.{Appends, append_known}
+use Rattle.std.specs.Io.KnownBytes.{Appends}
 use Rattle.std.proofs.Common.{subst}
 use Rattle.std.proofs.lemmas.List.{take_all}
 use Rattle.std.proofs.lemmas.Result.{on_ok_weaker, on_err_weaker}
 use Rattle.pb_schema.specs.Tree.{Tree}
 use Rattle.arena_run.specs.Stands.{AllStand}
-use Rattle.arena_run.specs.Written.{output_of, TookPart}
+use Rattle.arena_run.specs.Written.{output_of}
 use Rattle.arena_mem.specs.Places.{Places}
 use Rattle.arena_mem.specs.declared.place.Place.{Place}
 use Rattle.arena_run.proofs.AllStand.{stands_at_index, frame_gathered, output_parts, AllStand-length}
