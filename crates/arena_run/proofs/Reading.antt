@@ -8,7 +8,7 @@ use Rattle.std.specs.Option.{option_map}
 use Rattle.std.proofs.Math.Nat.{add-mod}
 use Rattle.std.proofs.lemmas.List.{get_or-drop, drop-drop}
 use Rattle.pb_schema.specs.Varint.{seven_bits, varint_at, tag_bytes, value_bytes}
-use Rattle.pb_schema.proofs.Steps.{ContinuedTo, continued_more, continued_value, continued_cut, continued_long, seven_bits_more, frame_at_whole, frame_at_no_prefix}
+use Rattle.pb_schema.proofs.Steps.{ContinuedTo, continued_none, continued_more, continued_value, continued_cut, continued_long, seven_bits_more, frame_at_whole, frame_at_no_prefix}
 use Rattle.arena_run.specs.Reading.{moved}
 
 -- what was found, counted from where it stands
@@ -67,6 +67,22 @@ read_last bytes start most i value low so_far within inside small is_low =
     let small_here : get_or s i 0 < 128 = omega arith in
     ap (λ v. Some (v, start + i + 1)) (seven_bits_so_far s i value low here so_far.value_is (is_low ∙ ap (λ b. b % 128) (sym at)))
     ∙ moved_some (varint_at most s) start _ (i + 1) (start + i + 1) (continued_value most s i so_far.continued within here small_here) (omega arith)
+
+-- a varint of one byte
+pub read_first : (bytes : List ℕ) (start most byte : ℕ) → 1 ≤ most → start < length bytes → byte ≡ get_or bytes start 0 → byte < 128 → Some (byte, start + 1) ≡ moved start (varint_at most (drop start bytes))
+read_first bytes start most byte some inside is_byte small =
+    let s = drop start bytes in
+    let here : 0 < length s = omega (arith, length-drop start bytes) in
+    let at : get_or s 0 0 ≡ byte = get_or-drop start bytes 0 0 ∙ ap (λ k. get_or bytes k 0) (add_zero start) ∙ sym is_byte in
+    let small_here : get_or s 0 0 < 128 = omega arith in
+    let value : seven_bits (take 1 s) % 2 ^ 64 ≡ byte = ap (λ n. n % 2 ^ 64) (seven_bits_more s 0 here) ∙ ap (λ b. (0 + b % 128 * 1) % 2 ^ 64) at ∙ one_byte byte small in
+    moved_some (varint_at most s) start byte 1 (start + 1) (continued_value most s 0 (continued_none most s) some here small_here ∙ ap (λ v. Some (v, 1)) value) refl
+  where
+    add_zero : (n : ℕ) → n + 0 ≡ n
+    add_zero n = omega arith
+
+    one_byte : (b : ℕ) → b < 128 → (0 + b % 128 * 1) % 2 ^ 64 ≡ b
+    one_byte b h = omega arith
 
 pub read_cut : (bytes : List ℕ) (start most i value : ℕ) → ReadTo bytes start most i value → min most (length bytes - start) ≤ i → None ≡ moved start (varint_at most (drop start bytes))
 read_cut bytes start most i value so_far past =

@@ -24,10 +24,15 @@ const VALUE_TAG: u64 = 8;
 #[inline]
 fn read_varint(bytes: &[u8], start: usize, most: usize) -> Option<(u64, usize)>
     requires start { start ≤ length bytes.now }
+    requires some { 1 ≤ most }
     requires most { most ≤ 10 }
     ensures found { result ≡ moved start (varint_at most (drop start bytes.now)) }
     ensures bound { IfSome result (λ found. (start < found.1) × (found.1 ≤ length bytes.now)) }
 {
+    // Most tags, lengths and small values have one byte.
+    if start < bytes.len() && bytes[start] < 128 {
+        return Some((u64::from(bytes[start]), start + 1));
+    }
     let limit = most.min(bytes.len() - start);
     let mut value = 0u64;
     for i in 0..limit {

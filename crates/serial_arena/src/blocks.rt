@@ -43,8 +43,26 @@ pub(crate) fn add_block(
     let start = row.len();
     make_room(starts, 1, STEP_BYTES / 8)?;
     make_room(row, len as usize, STEP_BYTES)?;
-    row.resize(start + len as usize, 0)?;
+    push_zeros(row, len)?;
     starts.push_reserved(start);
+    Ok(())
+}
+
+// Common placements are short: a copy of known length from here is a few instructions.
+const ZEROS: [u8; 64] = [0; 64];
+
+// Adds `len` zero bytes.
+#[inline]
+fn push_zeros(row: &mut Vec<u8>, len: u32) -> Result<(), NoMemory>
+    ensures ok { OnOk result (row.new.items ≡ row.old.items ++ replicate len 0) }
+    ensures err { OnErr result (row.new.items ≡ row.old.items) }
+{
+    let len = len as usize;
+    if len <= ZEROS.len() {
+        row.extend_from_slice(&ZEROS[..len])?;
+    } else {
+        row.resize(row.len() + len, 0)?;
+    }
     Ok(())
 }
 
