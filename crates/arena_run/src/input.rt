@@ -13,9 +13,6 @@ pub const FRAME_BYTES_LIMIT: usize = 16777216;
 /// How many bytes are asked for in one call.
 const READ_BYTES: usize = 65536;
 
-/// How many bytes a file is expected to have. Room that isn't written is address space alone.
-const FIRST_ROOM: usize = 2097152;
-
 /// Why a file wasn't read to its end.
 #[derive(Clone, Copy, Debug, PartialEq, Eq)]
 pub enum ReadEnd {
@@ -59,7 +56,7 @@ fn read_picked<F: Files>(alloc: Global, files: &mut F) -> Result<Vec<u8>, ReadEn
     ensures failed { IsErrOf result ReadEnd.Failed → Rose (F.faults files.old) (F.faults files.new) }
     ensures blamed { IsErrOf result ReadEnd.Failed → F.blamed files.new ≡ F.picked files.old }
 {
-    let mut bytes = with_some_room(alloc);
+    let mut bytes = with_room(alloc);
     let mut room = [0u8; READ_BYTES];
     while bytes.len() <= FRAME_BYTES_LIMIT {
         let asked = READ_BYTES.min(FRAME_BYTES_LIMIT + 1 - bytes.len());
@@ -76,11 +73,11 @@ fn read_picked<F: Files>(alloc: Global, files: &mut F) -> Result<Vec<u8>, ReadEn
     Err(ReadEnd::TooLong)
 }
 
-// An empty vector, with room for a file of common size where it can be had.
-fn with_some_room(alloc: Global) -> Vec<u8>
+// An empty vector, with room for the longest file where it can be had. Room that isn't written is address space alone.
+fn with_room(alloc: Global) -> Vec<u8>
     ensures { result.items ≡ [] }
 {
-    match Vec::with_capacity(alloc, FIRST_ROOM) {
+    match Vec::with_capacity(alloc, FRAME_BYTES_LIMIT + 1) {
         Ok(bytes) => bytes,
         Err(_) => Vec::new(alloc),
     }

@@ -14,7 +14,7 @@ pub(crate) fn rounded(bytes: u32) -> u32
 
 // How many bytes of address space a vector asks for at once, where it can have them. A page of it is taken when it is
 // first written, and a system that has huge pages can use them.
-const STEP_BYTES: usize = 2097152;
+const STEP_BYTES: usize = 16777216;
 
 // Makes room for `needed` more elements: for many at once where it can, else for just these.
 fn make_room<T>(items: &mut Vec<T>, needed: usize, step: usize) -> Result<(), NoMemory>
