@@ -15,7 +15,7 @@ const WRITTEN: &[u8] = b"\x03\x08\x96\x01";
 
 #[test]
 fn real_files_are_read(rt: HostRuntime) -> Result<(), Fail> {
-    let name = "ticks.frames";
+    let name = "read.frames";
     fs::write(&rt, name, FRAMES)?;
     let mut files = RealFiles::new(&rt);
     for turn in ["from the start", "again"] {
@@ -28,6 +28,7 @@ fn real_files_are_read(rt: HostRuntime) -> Result<(), Fail> {
         assert_eq!(rt; files.read(&mut room), Ok(0), "{turn}");
         assert_eq!(rt; files.read(&mut room), Ok(0), "{turn}, behind the end");
     }
+    fs::remove_file(&rt, name)?;
     Ok(())
 }
 
@@ -50,6 +51,7 @@ fn a_missing_file_is_a_fault(rt: HostRuntime) -> Result<(), Fail> {
         let good = first_two(&mut files, String::from_str(alloc, "good")?);
         assert_eq!(rt; good, Ok(*b"ab"), "after {name}");
     }
+    fs::remove_file(&rt, "good")?;
     Ok(())
 }
 
@@ -133,11 +135,11 @@ fn words_over(alloc: Global, name: &str) -> Result<Vec<String>, AllocError> {
 #[test]
 fn a_file_goes_through_the_program(rt: HostRuntime) -> Result<(), Fail> {
     let alloc = rt.alloc();
-    fs::write(&rt, "ticks.frames", FRAMES)?;
+    fs::write(&rt, "run.frames", FRAMES)?;
     for (name, failing_call, status, taken) in [
-        ("ticks.frames", 0, 0, WRITTEN),
-        ("ticks.frames", 1, 7, b"".as_slice()),
-        ("ticks.frames", 2, 7, WRITTEN),
+        ("run.frames", 0, 0, WRITTEN),
+        ("run.frames", 1, 7, b"".as_slice()),
+        ("run.frames", 2, 7, WRITTEN),
         ("missing", 0, 6, b"".as_slice()),
         (".", 0, 6, b"".as_slice()),
     ] {
@@ -155,5 +157,6 @@ fn a_file_goes_through_the_program(rt: HostRuntime) -> Result<(), Fail> {
         assert_eq!(rt; outcome.status, status, "{name}, {failing_call}");
         assert_eq!(rt; writer.taken.as_slice(), taken, "{name}, {failing_call}");
     }
+    fs::remove_file(&rt, "run.frames")?;
     Ok(())
 }
