@@ -1,5 +1,5 @@
 // Real files, as the top call sees files.
-ghost use Rattle.std.specs.Prelude.{◌≡◌, ◌≤◌, None, is_some};
+ghost use Rattle.std.specs.Prelude.{◌≡◌, ◌≤◌, None, false, is_some};
 ghost use Rattle.arena_mem.specs.Outside.{Rose};
 
 use arena_mem::{Failed, FileNames, Files};
@@ -17,7 +17,12 @@ pub struct RealFiles<'a, R: std::rt::Files> {
 
 impl<'a, R: std::rt::Files> RealFiles<'a, R> {
     /// No file is picked.
-    pub fn new(rt: &'a R) -> Self {
+    pub fn new(rt: &'a R) -> Self
+        ensures no_faults { ⟦<RealFiles<'a, R> as Files>⟧.faults result ≡ 0 }
+        ensures not_open { ⟦<RealFiles<'a, R> as Files>⟧.is_open result ≡ false }
+        ensures picked { ⟦<RealFiles<'a, R> as Files>⟧.picked result ≡ None }
+        ensures blamed { ⟦<RealFiles<'a, R> as Files>⟧.blamed result ≡ None }
+    {
         RealFiles {
             rt,
             file: None,

@@ -1,5 +1,5 @@
 // A writer of std, as the top call sees a sink.
-ghost use Rattle.std.specs.Prelude.{◌≤◌, None};
+ghost use Rattle.std.specs.Prelude.{◌≡◌, ◌≤◌, None};
 ghost use Rattle.arena_mem.specs.Outside.{Rose};
 
 use arena_mem::{Failed, Sink};
@@ -13,7 +13,10 @@ pub struct WriterSink<W: Write> {
 }
 
 impl<W: Write> WriterSink<W> {
-    pub fn new(writer: W) -> Self {
+    /// A sink that hasn't failed.
+    pub fn new(writer: W) -> Self
+        ensures { ⟦<WriterSink<W> as Sink>⟧.faults result ≡ 0 }
+    {
         WriterSink { writer, faults: 0 }
     }
 

@@ -27,9 +27,7 @@ pub fn read_file<F: Files>(alloc: Global, files: &mut F, name: String) -> Result
     ensures counts { F.faults files.old ≤ F.faults files.new }
     ensures there_ok { IfOk result (λ _. IsThere (F.contents files.old) (string_bytes name)) }
     ensures there_long { IsErrOf result ReadEnd.TooLong → IsThere (F.contents files.old) (string_bytes name) }
-    ensures unblamed_ok { IfOk result (λ _. F.blamed files.new ≡ F.blamed files.old) }
-    ensures unblamed_long { IsErrOf result ReadEnd.TooLong → F.blamed files.new ≡ F.blamed files.old }
-    ensures unblamed_memory { IsErrOf result ReadEnd.NoMemory → F.blamed files.new ≡ F.blamed files.old }
+    ensures unblamed { (IsErrOf result ReadEnd.Failed → ⊥) → F.blamed files.new ≡ F.blamed files.old }
     ensures content { IfOk result (λ bytes. IfSome (content_of (F.contents files.old) (string_bytes name)) (λ content. bytes.items ≡ content)) }
     ensures limit { IfOk result (λ bytes. length bytes.items ≤ 2 ^ 24) }
     ensures too_long { IsErrOf result ReadEnd.TooLong → IfSome (content_of (F.contents files.old) (string_bytes name)) (λ content. 2 ^ 24 < length content) }
@@ -47,9 +45,7 @@ fn read_picked<F: Files>(alloc: Global, files: &mut F) -> Result<Vec<u8>, ReadEn
     requires { IsTrue (F.is_open files.old) }
     ensures contents { F.contents files.new ≡ F.contents files.old }
     ensures counts { F.faults files.old ≤ F.faults files.new }
-    ensures unblamed_ok { IfOk result (λ _. F.blamed files.new ≡ F.blamed files.old) }
-    ensures unblamed_long { IsErrOf result ReadEnd.TooLong → F.blamed files.new ≡ F.blamed files.old }
-    ensures unblamed_memory { IsErrOf result ReadEnd.NoMemory → F.blamed files.new ≡ F.blamed files.old }
+    ensures unblamed { (IsErrOf result ReadEnd.Failed → ⊥) → F.blamed files.new ≡ F.blamed files.old }
     ensures content { IfOk result (λ bytes. IfSome (F.left files.old) (λ content. bytes.items ≡ content)) }
     ensures limit { IfOk result (λ bytes. length bytes.items ≤ 2 ^ 24) }
     ensures too_long { IsErrOf result ReadEnd.TooLong → IfSome (F.left files.old) (λ content. 2 ^ 24 < length content) }

@@ -132,8 +132,7 @@ fn read_messages<F: Files, M: Memory>(
     ensures counts { F.faults files.old ≤ F.faults files.new }
     ensures there_ok { (frames : List ℕ) → IsCat (map string_bytes words.now) frames → IfOk result (λ _. IsThere (F.contents files.old) frames) }
     ensures there_built { (frames : List ℕ) → IsCat (map string_bytes words.now) frames → IsErrOf result Fault.NotBuilt → IsThere (F.contents files.old) frames }
-    ensures unblamed_ok { IfOk result (λ _. F.blamed files.new ≡ F.blamed files.old) }
-    ensures unblamed { IfErr result (λ e. (e ≡ Fault.ReadFault → ⊥) → F.blamed files.new ≡ F.blamed files.old) }
+    ensures unblamed { (IsErrOf result Fault.ReadFault → ⊥) → F.blamed files.new ≡ F.blamed files.old }
     ensures untouched { IsOtherCommand (map string_bytes words.now) → files.new ≡ files.old }
     ensures command { IfOk result (λ _. (frames : List ℕ) × IsCat (map string_bytes words.now) frames) }
     ensures stand { IfOk result (λ messages. OfTrees (map string_bytes words.now) (F.contents files.old) (AllStand (M.places mem.new) messages.items)) }
