@@ -8,7 +8,7 @@ use Rattle.std.specs.Option.{option_map}
 use Rattle.std.proofs.Math.Nat.{add-mod}
 use Rattle.std.proofs.lemmas.List.{get_or-drop, drop-drop}
 use Rattle.pb_schema.specs.Varint.{seven_bits, varint_at, tag_bytes, value_bytes}
-use Rattle.pb_schema.proofs.Steps.{ContinuedTo, continued_none, continued_more, continued_value, continued_cut, continued_long, seven_bits_more, frame_at_whole, frame_at_no_prefix}
+use Rattle.pb_schema.proofs.Steps.{ContinuedTo, continued_none, continued_more, continued_value, continued_cut, continued_long, seven_bits_more, frame_at_whole}
 use Rattle.arena_run.specs.Reading.{moved}
 
 -- what was found, counted from where it stands
@@ -102,10 +102,6 @@ frame_read bytes start len at read short fits =
     let payload : take (at + len - at) (drop at bytes) ≡ take len (drop prefix.bytes s) = ap (λ k. take k (drop at bytes)) same_len ∙ ap (take len) same_place in
     let wrap : List ℕ → Option (List ℕ × ℕ) = λ p. Some (p, at + len) in
     ap wrap payload ∙ moved_some (frame_at s) start _ (prefix.bytes + len) (at + len) (frame_at_whole s len prefix.bytes prefix.is short inside) (omega arith)
-
--- no frame, for each reason
-pub frame_without_prefix : (bytes : List ℕ) (start : ℕ) → None ≡ moved start (varint_at tag_bytes (drop start bytes)) → None ≡ moved start (frame_at (drop start bytes))
-frame_without_prefix bytes start read = let s = drop start bytes in moved_none (frame_at s) start (frame_at_no_prefix s (none_from_moved (varint_at tag_bytes s) start read))
 
 -- a value behind a tag, counted from the tag
 moved_twice : (found : Option (ℕ × ℕ)) (start n : ℕ) → moved (start + n) found ≡ moved start (option_map (λ value. (value.0, n + value.1)) found)

@@ -1,5 +1,5 @@
 -- What a sink took, call by call.
-use Rattle.std.proofs.Common.{◌≡◌, ◌+◌, ◌-◌, ◌<◌, ◌≤◌, ℕ, suc, List, [], ◌∷◌, ◌++◌, length, take, drop, Option, None, Some, refl, sym, ap, ◌∙◌, subst, append_assoc, take-append-drop, length-append, zero-add, arith}
+use Rattle.std.proofs.Common.{◌≡◌, ◌+◌, ◌-◌, ◌<◌, ◌≤◌, ℕ, suc, List, [], ◌∷◌, ◌++◌, length, take, drop, Option, None, Some, sym, ap, ◌∙◌, subst, append_assoc, take-append-drop, length-append, zero-add, arith}
 use Rattle.std.specs.Io.KnownBytes.{Appends, Keeps, append_known}
 use Rattle.std.proofs.KnownBytes.{Appends-trans}
 use Rattle.std.proofs.lemmas.List.{take-take, drop-take, take-append-le}
@@ -17,20 +17,11 @@ pub took_more : (a b c : Option (List ℕ)) (bytes piece : List ℕ) (done count
 took_more a b c bytes piece done count is_rest first second =
     subst (Appends a c) (ap (λ ys. take done bytes ++ take count ys) is_rest ∙ take_two done count bytes) (Appends-trans a b c _ _ first second)
 
-pub KeepsTaken-refl : (a : Option (List ℕ)) → KeepsTaken a a
-KeepsTaken-refl None = tt
-KeepsTaken-refl (Some x) = omega arith
-
 pub KeepsTaken-trans : (a b c : Option (List ℕ)) → KeepsTaken a b → KeepsTaken b c → KeepsTaken a c
 KeepsTaken-trans None b c p q = tt
 KeepsTaken-trans (Some x) None c p q = absurd p
 KeepsTaken-trans (Some x) (Some y) None p q = absurd q
 KeepsTaken-trans (Some x) (Some y) (Some z) p q = omega arith
-
--- nothing is gathered yet
-pub nothing_gathered : (a : Option (List ℕ)) → Appends a (append_known a []) []
-nothing_gathered None = tt
-nothing_gathered (Some x) = refl
 
 -- more is gathered, behind room that was made
 pub gathered_more : (a b c : Option (List ℕ)) (piece room frame front : List ℕ) → Appends a (append_known b piece) front → Keeps (append_known b piece) (append_known c room) → Appends a (append_known c (room ++ frame)) (front ++ frame)

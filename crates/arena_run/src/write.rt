@@ -1,5 +1,5 @@
 // Writing messages to a sink, each behind its prefix.
-ghost use Rattle.std.specs.Prelude.{◌≡◌, ◌+◌, ◌<◌, ◌≤◌, ◌++◌, List, length, take, IfOk, OnOk, OnErr};
+ghost use Rattle.std.specs.Prelude.{◌≡◌, ◌+◌, ◌*◌, ◌^◌, ◌<◌, ◌≤◌, ◌++◌, List, length, take, IfOk, OnOk, OnErr};
 ghost use Rattle.std.specs.Io.KnownBytes.{Appends, Keeps, append_known};
 ghost use Rattle.arena_mem.specs.Outside.{HasCause};
 ghost use Rattle.pb_schema.specs.Tree.{Tree, tick};
@@ -15,6 +15,9 @@ const GATHERED_BYTES: usize = 32768;
 
 /// The tag of field 1 with wire type 0.
 const VALUE_TAG: u8 = 8;
+
+/// How many groups of seven bits the longest varint has.
+const MOST_GROUPS: usize = 10;
 
 /// The longest frame of a message: a prefix, a tag and a value of ten bytes.
 const LONGEST_FRAME: usize = 12;
@@ -88,20 +91,35 @@ fn put_frame(buffer: &mut [u8], filled: usize, value: u64) -> usize
     end
 }
 
-// Puts the shortest varint of a value behind `start` bytes. Answers where it ends.
+// Puts the shortest varint of a value behind `start` bytes. Answers where it ends. All ten groups are put, and the next
+// bytes overwrite those that are too many: how many there are can't be foreseen, and a branch on each costs more.
 #[inline]
 fn put_varint(buffer: &mut [u8], start: usize, value: u64) -> usize
     requires { start + 10 ≤ length buffer.old }
     ensures spelled { take result buffer.new ≡ take start buffer.old ++ varint_of value }
     ensures bound { (start < result) × (result ≤ start + 10) }
 {
-    let mut rest = value;
-    let mut end = start;
-    while rest >= 128 {
-        buffer[end] = (rest % 128) as u8 + 128;
-        rest /= 128;
-        end += 1;
+    if value < 128 {
+        buffer[start] = value as u8;
+        return start + 1;
     }
-    buffer[end] = rest as u8;
-    end + 1
+    let mut rest = value;
+    for group in 0..MOST_GROUPS {
+        buffer[start + group] = (rest % 128) as u8 + 128;
+        rest /= 128;
+    }
+    let last = last_group(value);
+    buffer[start + last] = (value >> (7 * last)) as u8;
+    start + last + 1
+}
+
+// How many whole groups of seven bits lie below the highest bit that is set.
+#[inline]
+fn last_group(value: u64) -> usize
+    requires { 0 < value }
+    ensures below { 2 ^ (7 * result) ≤ value }
+    ensures above { value < 2 ^ (7 * (result + 1)) }
+    ensures bound { result ≤ 9 }
+{
+    (63 - value.leading_zeros() as usize) / 7
 }

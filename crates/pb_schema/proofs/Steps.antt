@@ -1,7 +1,6 @@
 -- Steps of a loop that reads or writes the wire format: what a definition says one byte, one frame or one record on.
-use Rattle.std.proofs.Common.{◌≡◌, ℕ, zero, suc, ◌+◌, ◌-◌, ◌*◌, ◌/◌, ◌%◌, ◌^◌, ◌<◌, ◌≤◌, List, [], ◌∷◌, ◌++◌, length, get_or, take, drop, Bool, true, false, cond, Option, None, Some, option_map, option_and_then, Result, Ok, Err, refl, sym, ap, ◌∙◌, ⊎_elim, arith, length-drop, length-take-le, drop-drop, pow-add, ltb, leb, ◌&&◌, eqb, pow_mono}
-use Rattle.std.proofs.Math.Nat.{add-mod}
-use Rattle.std.proofs.lemmas.Bool.{cases_lt, lt-ltb, le-ltb, le-leb, lt-leb, eq-eqb, ne_eqb, cond-true, cond-false, and_from, and_left, and_right, and_parts, ltb-true, leb-true, eqb-true}
+use Rattle.std.proofs.Common.{◌≡◌, ℕ, zero, suc, ◌+◌, ◌-◌, ◌*◌, ◌/◌, ◌%◌, ◌^◌, ◌<◌, ◌≤◌, List, [], ◌∷◌, ◌++◌, length, get_or, take, drop, Bool, true, false, cond, Option, None, Some, option_map, option_and_then, Result, Ok, Err, refl, sym, ap, ◌∙◌, ⊎_elim, arith, length-drop, length-take-le, drop-drop, pow-add, ltb, leb, ◌&&◌, eqb}
+use Rattle.std.proofs.lemmas.Bool.{cases_lt, lt-ltb, le-ltb, le-leb, eq-eqb, cond-true, cond-false, and_from, and_parts, ltb-true, leb-true, eqb-true}
 use Rattle.std.proofs.lemmas.Option.{none-some, same_Some, option_and_then_some, cond_some}
 use Rattle.std.proofs.lemmas.List.{at_drop_more, at_drop_all, drop_more, take_more}
 use Rattle.pb_schema.specs.Varint.{seven_bits, varint_bytes, varint_at, tag_bytes, value_bytes}
@@ -128,22 +127,6 @@ seven_bits_below (a ∷ s) =
     let power : 2 ^ (7 * suc (length s)) ≡ 128 * 2 ^ (7 * length s) = ap (λ n. 2 ^ n) longer ∙ pow-add 2 7 (7 * length s) in
     omega (arith, seven_bits_below s, power)
 
--- i bytes spell a number of 7 i bits
-pub seven_bits_bound : (s : List ℕ) (i : ℕ) → i ≤ length s → seven_bits (take i s) < 2 ^ (7 * i)
-seven_bits_bound s i l = let same = length-take-le i s l in rw same at (seven_bits_below (take i s))
-
--- the same of a loop that keeps 64 bits
-pub seven_bits_more_wraps : (s : List ℕ) (i : ℕ) → i < length s → seven_bits (take (i + 1) s) % 2 ^ 64 ≡ (seven_bits (take i s) % 2 ^ 64 + get_or s i 0 % 128 * 2 ^ (7 * i) % 2 ^ 64) % 2 ^ 64
-seven_bits_more_wraps s i l = ap (λ n. n % 2 ^ 64) (seven_bits_more s i l) ∙ add-mod (seven_bits (take i s)) (get_or s i 0 % 128 * 2 ^ (7 * i)) (2 ^ 64)
-
--- nine bytes spell 63 bits at most
-pub seven_bits_small : (s : List ℕ) (i : ℕ) → i ≤ length s → i ≤ 9 → seven_bits (take i s) < 2 ^ 63
-seven_bits_small s i l few = omega (arith, seven_bits_bound s i l, pow_mono {i = 7 * i} {j = 63} (omega arith))
-
--- the tenth byte's lowest bit is the 64th, and the others wrap
-pub tenth_group : (b : ℕ) → b % 128 * 2 ^ 63 % 2 ^ 64 ≡ b % 2 * 2 ^ 63
-tenth_group b = omega arith
-
 -- FRAMES
 
 -- n bytes that are skipped are n bytes dropped
@@ -160,16 +143,6 @@ frame_at_whole s len n e short fits =
 
 pub frame_at_no_prefix : (s : List ℕ) → varint_at tag_bytes s ≡ None → frame_at s ≡ None
 frame_at_no_prefix s e = ap (λ o. option_and_then (λ prefix. payload_at prefix.0 prefix.1 s) o) e
-
-pub frame_at_too_long : (s : List ℕ) (len n : ℕ) → varint_at tag_bytes s ≡ Some (len, n) → 2 ^ 31 ≤ len → frame_at s ≡ None
-frame_at_too_long s len n e long =
-    ap (λ o. option_and_then (λ prefix. payload_at prefix.0 prefix.1 s) o) e
-    ∙ cond-false (ltb len (2 ^ 31) && leb (n + len) (length s)) _ _ (and_left _ _ (le-ltb len (2 ^ 31) long))
-
-pub frame_at_cut : (s : List ℕ) (len n : ℕ) → varint_at tag_bytes s ≡ Some (len, n) → length s < n + len → frame_at s ≡ None
-frame_at_cut s len n e short =
-    ap (λ o. option_and_then (λ prefix. payload_at prefix.0 prefix.1 s) o) e
-    ∙ cond-false (ltb len (2 ^ 31) && leb (n + len) (length s)) _ _ (and_right _ _ (lt-leb (n + len) (length s) short))
 
 -- what a varint at the front is
 pub varint_at_parts : {P : Type 0} (most : ℕ) (s : List ℕ) (v n : ℕ) → varint_at most s ≡ Some (v, n) → (varint_bytes most s ≡ Some n → v ≡ seven_bits (take n s) % 2 ^ 64 → P) → P
@@ -232,10 +205,6 @@ frames_more s at payload n l e =
     ∙ (ap (λ o. after_frame o (drop (at + 1) s)) (sym (ap frame_at front) ∙ e)
     ∙ ap (behind payload) (frames_from-skip (n - 1) (drop (at + 1) s) ∙ ap frames_of (dropped_more s at n within.0))))
 
--- the frame, within the bytes
-pub frame_within : (s : List ℕ) (at : ℕ) (payload : List ℕ) (n : ℕ) → at < length s → frame_at (drop at s) ≡ Some (payload, n) → (1 ≤ n) × (at + n ≤ length s)
-frame_within s at payload n l e = let within = frame_at_within (drop at s) payload n e in (within.0, omega (arith, within.1, length-drop at s))
-
 pub frames_cut : (s : List ℕ) (at : ℕ) → at < length s → frame_at (drop at s) ≡ None → frames_of (drop at s) ≡ Err 0
 frames_cut s at l e =
     let front = drop_more s at 0 l in
@@ -259,20 +228,6 @@ record_at_whole number s n v m tag_is value_is =
     ap (λ o. option_and_then (λ tag. value_at number tag.0 tag.1 s) o) tag_is
     ∙ (cond-true (eqb (tag_of number 0) (tag_of number 0)) _ _ (eq-eqb (tag_of number 0) (tag_of number 0) refl)
     ∙ ap (λ o. option_map (λ value. (value.0, n + value.1)) o) value_is)
-
-pub record_at_no_tag : (number : ℕ) (s : List ℕ) → varint_at tag_bytes s ≡ None → record_at number s ≡ None
-record_at_no_tag number s e = ap (λ o. option_and_then (λ tag. value_at number tag.0 tag.1 s) o) e
-
-pub record_at_other : (number : ℕ) (s : List ℕ) (tag n : ℕ) → varint_at tag_bytes s ≡ Some (tag, n) → (tag ≡ tag_of number 0 → ⊥) → record_at number s ≡ None
-record_at_other number s tag n e other =
-    ap (λ o. option_and_then (λ tag. value_at number tag.0 tag.1 s) o) e
-    ∙ cond-false (eqb tag (tag_of number 0)) _ _ (ne_eqb tag (tag_of number 0) other)
-
-pub record_at_no_value : (number : ℕ) (s : List ℕ) (n : ℕ) → varint_at tag_bytes s ≡ Some (tag_of number 0, n) → varint_at value_bytes (drop n s) ≡ None → record_at number s ≡ None
-record_at_no_value number s n tag_is no_value =
-    ap (λ o. option_and_then (λ tag. value_at number tag.0 tag.1 s) o) tag_is
-    ∙ (cond-true (eqb (tag_of number 0) (tag_of number 0)) _ _ (eq-eqb (tag_of number 0) (tag_of number 0) refl)
-    ∙ ap (λ o. option_map (λ value. (value.0, n + value.1)) o) no_value)
 
 -- what a record at the front is
 pub record RecordParts (number : ℕ) (s : List ℕ) (v n : ℕ) : Type 0 where
@@ -321,10 +276,6 @@ values_more number s at v n l e =
     ∙ (ap (λ o. after_record number o (drop (at + 1) s)) (sym (ap (record_at number) front) ∙ e)
     ∙ ap (λ o. option_map (λ vs. v ∷ vs) o) (values_from-skip number (n - 1) (drop (at + 1) s) ∙ ap (values_of number) (dropped_more s at n within.0))))
 
--- the record, within the bytes
-pub record_within : (number : ℕ) (s : List ℕ) (at v n : ℕ) → at < length s → record_at number (drop at s) ≡ Some (v, n) → (1 ≤ n) × (at + n ≤ length s)
-record_within number s at v n l e = let within = record_at_within number (drop at s) v n e in (within.0, omega (arith, within.1, length-drop at s))
-
 pub values_cut : (number : ℕ) (s : List ℕ) (at : ℕ) → at < length s → record_at number (drop at s) ≡ None → values_of number (drop at s) ≡ None
 values_cut number s at l e =
     let front = drop_more s at 0 l in
@@ -332,15 +283,7 @@ values_cut number s at l e =
     ∙ (values_of_front number (get_or s at 0) (drop (at + 1) s)
     ∙ ap (λ o. after_record number o (drop (at + 1) s)) (sym (ap (record_at number) front) ∙ e))
 
-pub values_end : (number : ℕ) (s : List ℕ) (at : ℕ) → length s ≤ at → values_of number (drop at s) ≡ Some []
-values_end number s at h = at_drop_all (values_of number) s at h
-
 -- THE LAST VALUE
-
-pub last_or_zero_push : (vs : List ℕ) (v : ℕ) → last_or_zero (vs ++ v ∷ []) ≡ v
-last_or_zero_push [] v = refl
-last_or_zero_push (a ∷ []) v = refl
-last_or_zero_push (a ∷ b ∷ vs) v = last_or_zero_push (b ∷ vs) v
 
 last_or_zero_none : (vs : List ℕ) → last_or_zero (0 ∷ vs) ≡ last_or_zero vs
 last_or_zero_none [] = refl
@@ -365,9 +308,6 @@ last_after_more number s at w v n l e =
 pub last_after_cut : (number : ℕ) (s : List ℕ) (at w : ℕ) → at < length s → record_at number (drop at s) ≡ None → last_after number w (drop at s) ≡ None
 last_after_cut number s at w l e = ap (λ o. option_map (λ vs. last_or_zero (w ∷ vs)) o) (values_cut number s at l e)
 
-pub last_after_end : (number : ℕ) (s : List ℕ) (at w : ℕ) → length s ≤ at → last_after number w (drop at s) ≡ Some w
-last_after_end number s at w h = ap (λ o. option_map (λ vs. last_or_zero (w ∷ vs)) o) (values_end number s at h)
-
 -- TEXT
 
 pub groups_last : (more v : ℕ) → v < 128 → groups more v ≡ v ∷ []
@@ -376,13 +316,6 @@ groups_last (suc more) v h = cond-true (ltb v 128) _ _ (lt-ltb v 128 h)
 
 pub groups_more : (more v : ℕ) → 128 ≤ v → groups (suc more) v ≡ (v % 128 + 128) ∷ groups more (v / 128)
 groups_more more v h = cond-false (ltb v 128) _ _ (le-ltb v 128 h)
-
--- a number of 7 more + 8 bits has one of 7 more + 1 bits behind its first group; the tenth group of 64 bits is below 2
-pub groups_fit : (more v : ℕ) → v < 2 ^ (7 * suc more + 1) → v / 128 < 2 ^ (7 * more + 1)
-groups_fit more v h =
-    let longer : 7 * suc more + 1 ≡ 7 + (7 * more + 1) = omega arith in
-    let power : 2 ^ (7 * suc more + 1) ≡ 128 * 2 ^ (7 * more + 1) = ap (λ n. 2 ^ n) longer ∙ pow-add 2 7 (7 * more + 1) in
-    omega (arith, power)
 
 pub last_group : (v : ℕ) → v < 2 ^ 64 → v / 2 ^ 63 < 2
 last_group v h = omega arith
@@ -411,6 +344,3 @@ framed_short s h = ap (λ prefix. prefix ++ s) (groups_last 9 (length s) h)
 
 pub framed-text_of : (t : Tree) → framed (text_of t) ≡ length (text_of t) ∷ text_of t
 framed-text_of t = framed_short (text_of t) (omega (arith, length-text_of t))
-
-pub length-framed : (t : Tree) → length (framed (text_of t)) ≤ 12
-length-framed t = omega (arith, ap length (framed-text_of t), length-text_of t)

@@ -1,17 +1,12 @@
-use Rattle.std.proofs.Common.{◌+◌, ◌≤◌, ◌++◌, length, take}
-use Rattle.pb_schema.specs.Text.{varint_of}
-use Rattle.arena_run.proofs.Groups.{Groups}
+use Rattle.std.proofs.Common.{◌≡◌, ◌+◌, ◌*◌, ◌/◌, ◌^◌, ◌≤◌, ◌++◌, length, take}
+use Rattle.arena_run.proofs.Groups.{continued}
 use Rattle.arena_run.proofs.write.put_varint.Given as goal
 
--- the groups so far stand behind the start
-abbrev pub invariant-loop-rest : goal.invariant-loop-rest
-invariant-loop-rest l =
+-- the lowest groups stand behind the start, more behind each
+abbrev pub invariant-loop-group : goal.invariant-loop-group
+invariant-loop-group l =
     record {
-      groups : Groups (take l.start l.initial.buffer) (take l.start l.initial.buffer ++ varint_of l.value) (take l.end l.buffer) l.rest;
+      groups : take (l.start + l.group) l.buffer ≡ take l.start l.initial.buffer ++ continued l.group l.value;
+      rest : l.rest ≡ l.value / 2 ^ (7 * l.group);
       room : l.start + 10 ≤ length l.buffer;
-      from : l.start ≤ l.end;
-      to : l.end ≤ l.start + 9;
     }
-
-abbrev pub decreases-loop-rest : goal.decreases-loop-rest
-decreases-loop-rest l = l.rest
