@@ -42,6 +42,6 @@ pub fn number<M: Memory>(mem: &M, message: Place) -> u64
 {
     let record = mem.read(message);
     let mut slot = [0u8; 8];
-    slot.copy_from_slice(&record[24..32]);
+    slot.copy_from_slice(&record[VALUE_SLOT as usize..RECORD_BYTES as usize]);
     u64::from_le_bytes(slot)
 }
