@@ -22,6 +22,7 @@ fn main(rt: HostRuntime) -> ExitCode {
             let alloc = rt.alloc();
             let mut files = RealFiles::new(&rt);
             let mut out = WriterSink::new(io::writer(&rt));
+            // Owner 0, in its first life; its places name region 0.
             let arena = SerialArena::new(alloc, 0, 1, 0);
             ExitCode::from(run(alloc, &words, &mut files, &mut out, arena).status)
         }

@@ -8,7 +8,7 @@ use arena_mem::Files;
 use std::alloc::Global;
 
 /// How many bytes a frames file may have.
-pub const FRAME_BYTES_LIMIT: usize = 16777216;
+const FRAME_BYTES_LIMIT: usize = 16777216;
 
 /// How many bytes are asked for in one call.
 const READ_BYTES: usize = 65536;

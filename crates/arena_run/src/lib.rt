@@ -2,7 +2,7 @@
 //!
 //! It stands above all other crates, and the program's `main` calls it. Its contract: a run that ends well has
 //! written exactly the framed texts of the decoded frames in order; each register stands for its tree in the arena
-//! that is handed back; and every status says when it comes.
+//! that is handed back; and every status but that of want of memory says when it comes.
 #![tactic(auto)]
 
 mod fault;

@@ -1,5 +1,5 @@
 // Parsing the frames of a file into messages.
-ghost use Rattle.std.specs.Prelude.{◌≡◌, ◌+◌, ℕ, [], None, length, IfOk, IfErr, IsErrOf, IsSomeAnd};
+ghost use Rattle.std.specs.Prelude.{◌≡◌, ◌+◌, ◌^◌, ◌≤◌, ℕ, [], None, length, IfOk, IfErr, IsErrOf, IsSomeAnd};
 ghost use Rattle.std.specs.FinMap as finite;
 ghost use Rattle.arena_mem.specs.Places.{KeepsRest};
 ghost use Rattle.arena_run.specs.Plain.{trees_in};
@@ -30,6 +30,7 @@ pub fn parse_frames<M: Memory>(
     ensures stand { IfOk result (λ messages. IsSomeAnd (trees_in bytes.now) (AllStand (M.places mem.new) messages.items)) }
     ensures differ { IfOk result (λ messages. EachTwo Differ messages.items) }
     ensures not_plain { IsErrOf result ParseEnd.NotPlain → trees_in bytes.now ≡ None }
+    ensures few { finite.len (M.places mem.new) ≤ finite.len (M.places mem.old) + 2 ^ 20 }
     ensures counted { IfOk result (λ messages. finite.len (M.places mem.new) ≡ finite.len (M.places mem.old) + length messages.items) }
     ensures key { M.key mem.new ≡ M.key mem.old }
     ensures rest { KeepsRest (M.places mem.old) (M.places mem.new) }

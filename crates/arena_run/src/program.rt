@@ -1,5 +1,5 @@
 // The top call, and the outcome of a run.
-ghost use Rattle.std.specs.Prelude.{◌≡◌, ◌⊎◌, ◌+◌, ◌≤◌, ℕ, List, [], None, Some, Err, length, map, IfOk, IfErr, IfNone, IsSome, IsErrOf};
+ghost use Rattle.std.specs.Prelude.{◌≡◌, ◌⊎◌, ◌+◌, ◌^◌, ◌≤◌, ℕ, List, [], None, Some, Err, length, map, IfOk, IfErr, IfNone, IsSome, IsErrOf};
 ghost use Rattle.std.specs.FinMap as finite;
 ghost use Rattle.std.specs.String.{string_bytes};
 ghost use Rattle.std.specs.Io.KnownBytes.{Appends, Keeps};
@@ -37,9 +37,10 @@ pub struct Outcome {
 ///
 /// So far one command is built: `cat builtin pb.Tick FRAMES 1` parses each frame of the file into the arena, in order,
 /// and writes each message behind its prefix. FRAMES may be any name. A frames file is plain where it has at most 2^24
-/// bytes, which are at most 2^20 whole frames, each of them whole records of field 1 with wire type 0. All other words
-/// and files are refused as `NotBuilt`. What is said of a file's content or of the bytes that were taken holds where
-/// the files and the sink tell them.
+/// bytes, which are at most 2^20 whole frames, each of them whole records of field 1 with wire type 0. All other words,
+/// and files that aren't plain, are refused as `NotBuilt`; a file that can't be read is a `ReadFault`. What is said of a
+/// file's content or of the bytes that were taken holds where the files and the sink tell them. It asks for an arena in
+/// which nothing was placed and nothing is kept.
 pub fn run<F: Files, O: Sink>(
     alloc: Global,
     words: &[String],
@@ -91,8 +92,9 @@ pub fn run<F: Files, O: Sink>(
     ensures complete { (frames content : List ℕ) → IsCat (map string_bytes words.now) frames → content_of (F.contents files.old) frames ≡ Some content → IsSome (trees_of content)
         → (Rose (F.faults files.old) (F.faults files.new) → ⊥) → (Rose (O.faults out.old) (O.faults out.new) → ⊥) → EndsWell result.fault }
 
-    // The arena keeps its owner, life and region, and keeps nothing outside its blocks. It is untouched where nothing
-    // was read.
+    // The arena keeps its owner, life and region, and keeps nothing outside its blocks. It is untouched where reading
+    // failed and for words of no command, and has a place for each frame at the most on whatever fault.
+    ensures few { finite.len (places_of result.arena) ≤ 2 ^ 20 }
     ensures key { key_of result.arena ≡ key_of arena }
     ensures buffers { buffers_of result.arena ≡ buffers_of arena }
     ensures unread { result.fault ≡ Some Fault.ReadFault → result.arena ≡ arena }
@@ -127,6 +129,7 @@ fn read_messages<F: Files, M: Memory>(
     mem: &mut M,
 ) -> Result<Vec<Place>, Fault>
     requires { (region : ℕ) → M.blocks mem.old region ≡ 0 }
+    ensures few { finite.len (M.places mem.new) ≤ finite.len (M.places mem.old) + 2 ^ 20 }
     ensures contents { F.contents files.new ≡ F.contents files.old }
     ensures counts { F.faults files.old ≤ F.faults files.new }
     ensures there_ok { (frames : List ℕ) → IsCat (map string_bytes words.now) frames → IfOk result (λ _. IsThere (F.contents files.old) frames) }
@@ -177,6 +180,7 @@ fn cat<F: Files, O: Sink, M: Memory>(
     mem: &mut M,
 ) -> (Option<Fault>, Vec<Place>)
     requires { (region : ℕ) → M.blocks mem.old region ≡ 0 }
+    ensures few { finite.len (M.places mem.new) ≤ finite.len (M.places mem.old) + 2 ^ 20 }
     ensures contents { F.contents files.new ≡ F.contents files.old }
     ensures counts { F.faults files.old ≤ F.faults files.new }
     ensures sink_counts { O.faults out.old ≤ O.faults out.new }

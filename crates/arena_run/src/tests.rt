@@ -109,7 +109,6 @@ fn messages_are_written_again(rt: HostRuntime) -> Result<(), Fail> {
         let end = end_of_run(rt.alloc(), &CAT, content, &[], 1, &[])?;
         check_well(&rt, &end, written, messages, name);
     }
-    plain_files();
     Ok(())
 }
 

@@ -7,6 +7,9 @@ ghost use Rattle.arena_run.specs.Stands.{Stands};
 
 use arena_mem::{MemFault, Memory, NoMemory, Place};
 
+/// The tag of the field: number 1, wire type 0.
+pub const VALUE_TAG: u8 = 8;
+
 const RECORD_BYTES: u32 = 32;
 
 /// Where the field's slot begins in the record.
@@ -19,6 +22,7 @@ pub fn create<M: Memory>(mem: &mut M, value: u64) -> Result<Place, NoMemory>
     ensures fresh { IfOk result (λ p. map.get (M.places mem.old) p ≡ None) }
     ensures stands { IfOk result (λ p. Stands (M.places mem.new) p (tick value)) }
     ensures counted { IfOk result (λ _. map.len (M.places mem.new) ≡ map.len (M.places mem.old) + 1) }
+    ensures unchanged { OnErr result (M.places mem.new ≡ M.places mem.old) }
     ensures rest { KeepsRest (M.places mem.old) (M.places mem.new) }
     ensures buffers { M.buffers mem.new ≡ M.buffers mem.old }
     ensures block_counts { AddsAtMostABlock (M.blocks mem.old) (M.blocks mem.new) }

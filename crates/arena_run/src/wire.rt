@@ -8,6 +8,8 @@ ghost use Rattle.pb_schema.specs.Tree.{tick};
 ghost use Rattle.pb_schema.specs.Decode.{tree_of};
 ghost use Rattle.arena_run.specs.Reading.{moved};
 
+use crate::tick::VALUE_TAG;
+
 /// The most bytes of a tag, a length or a prefix.
 const TAG_BYTES: usize = 5;
 
@@ -16,9 +18,6 @@ const VALUE_BYTES: usize = 10;
 
 /// Payloads are shorter than this.
 const LENGTH_END: u64 = 1 << 31;
-
-/// The tag of field 1 with wire type 0.
-const VALUE_TAG: u64 = 8;
 
 // The varint of at most `most` bytes at `start`.
 #[inline]
@@ -70,7 +69,7 @@ fn read_record(payload: &[u8], start: usize) -> Option<(u64, usize)>
     ensures bound { IfSome result (λ found. (start < found.1) × (found.1 ≤ length payload.now)) }
 {
     let (tag, at) = read_varint(payload, start, TAG_BYTES)?;
-    if tag != VALUE_TAG {
+    if tag != u64::from(VALUE_TAG) {
         return None;
     }
     read_varint(payload, at, VALUE_BYTES)

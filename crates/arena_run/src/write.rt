@@ -7,14 +7,11 @@ ghost use Rattle.pb_schema.specs.Text.{varint_of, text_of, framed};
 ghost use Rattle.arena_run.specs.Stands.{AllStand};
 ghost use Rattle.arena_run.specs.Written.{output_of, TookPart, KeepsTaken};
 
-use crate::tick;
+use crate::tick::{self, VALUE_TAG};
 use arena_mem::{Failed, Memory, Place, Sink};
 
 /// How many bytes are gathered before they are handed to the sink.
 const GATHERED_BYTES: usize = 32768;
-
-/// The tag of field 1 with wire type 0.
-const VALUE_TAG: u8 = 8;
 
 /// How many groups of seven bits the longest varint has.
 const MOST_GROUPS: usize = 10;

@@ -128,9 +128,6 @@ no_bit_left = refl
 a_long_default : tree_of (8 ∷ 128 ∷ 0 ∷ []) ≡ Some (record { value = Nothing })
 a_long_default = refl
 
-nothing_is_empty : tree_of [] ≡ Some (record { value = Nothing })
-nothing_is_empty = refl
-
 no_such_wire_type : tree_of (15 ∷ 0 ∷ []) ≡ None
 no_such_wire_type = refl
 

@@ -10,3 +10,6 @@ returns-clause-apart g c =
 
 pub returns-clause-only : goal.returns-clause-only
 returns-clause-only g c = λ parsed. omega (arith, c.cat-fault.ensures.counted parsed, unused_has_none c.args.arena c.requires.no_placements)
+
+pub returns-clause-few : goal.returns-clause-few
+returns-clause-few g c = omega (arith, c.cat-fault.ensures.few, unused_has_none c.args.arena c.requires.no_placements)
