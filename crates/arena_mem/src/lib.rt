@@ -1,4 +1,4 @@
-//! What the layers above see of memory, files and sinks: the names of places, three traits, and files and a
+//! What the layers above see of memory, files and sinks: the names of places, four traits, and files and a
 //! sink in memory.
 //!
 //! It stands between the arenas, which implement `Memory`, and the messages, which are generic over it. Its
@@ -14,6 +14,7 @@ mod memory_files;
 mod memory_sink;
 mod named_bytes;
 mod outside;
+mod part;
 mod place;
 mod reading;
 
@@ -24,6 +25,7 @@ pub use memory_sink::MemorySink;
 pub use named_bytes::NamedBytes;
 pub use no_memory::NoMemory;
 pub use outside::{Failed, Files, Sink};
+pub use part::Part;
 pub use place::{Buffer, Place};
 
 #[cfg(test)]
