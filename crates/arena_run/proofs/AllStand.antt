@@ -7,8 +7,9 @@ use Rattle.std.specs.List.{AllByRecursion}
 use Rattle.std.specs.FinMap as map
 use Rattle.arena_mem.specs.declared.place.Place.{Place}
 use Rattle.arena_mem.specs.Places.{Places, IsLive}
-use Rattle.pb_schema.specs.Tree.{Tree, tick, number_of}
-use Rattle.pb_schema.specs.Text.{text_of, framed}
+use Rattle.pb_schema.specs.Tick.Tree.{Tree, tick, number_of}
+use Rattle.pb_schema.specs.Tick.Text.{text_of}
+use Rattle.pb_schema.specs.Text.{framed}
 use Rattle.arena_run.specs.Stands.{IsRecordOf, Stands, AllStand, EachTwo, Differ}
 use Rattle.arena_run.specs.Written.{output_of}
 use Rattle.arena_run.proofs.Messages.{number_of-tick}

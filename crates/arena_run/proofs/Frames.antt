@@ -2,8 +2,10 @@
 use Rattle.std.proofs.Common.{◌≡◌, ◌+◌, ◌-◌, ◌<◌, ◌≤◌, ℕ, zero, suc, List, [], ◌∷◌, ◌++◌, length, get_or, take, set, refl, sym, ap, ◌∙◌, append_assoc, length-append, arith}
 use Rattle.std.proofs.lemmas.List.{set_at, length-take-le, take_more, take_more_set}
 use Rattle.std.proofs.Math.Seq.{take-set-lt}
-use Rattle.pb_schema.specs.Tree.{tick}
-use Rattle.pb_schema.specs.Text.{varint_of, text_of, framed}
+use Rattle.pb_schema.specs.Tick.Tree.{tick}
+use Rattle.pb_schema.specs.Varint.{varint_of}
+use Rattle.pb_schema.specs.Tick.Text.{text_of}
+use Rattle.pb_schema.specs.Text.{framed}
 use Rattle.pb_schema.proofs.Steps.{framed-text_of}
 
 text_of-tick : (v : ℕ) → (v ≡ 0 → ⊥) → text_of (tick v) ≡ 8 ∷ varint_of v

@@ -4,7 +4,7 @@ use Rattle.std.proofs.Math.Nat.{div-div-eq-div-mul, div-one}
 use Rattle.std.proofs.lemmas.Nat.{le-div, div_below, pow_pos}
 use Rattle.std.proofs.Math.Seq.{take-append-add}
 use Rattle.std.proofs.lemmas.List.{take_more_set, take-take}
-use Rattle.pb_schema.specs.Text.{groups, varint_of}
+use Rattle.pb_schema.specs.Varint.{groups, varint_of}
 use Rattle.pb_schema.proofs.Steps.{groups_more, groups_last}
 use Rattle.pb_schema.proofs.VarintLaws.{groups_power}
 

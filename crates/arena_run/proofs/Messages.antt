@@ -8,7 +8,7 @@ use Rattle.std.proofs.lemmas.Nat.{from_le_bytes-to_le_bytes_8}
 use Rattle.std.proofs.lemmas.List.{take_all, length-drop}
 use Rattle.arena_mem.specs.declared.place.Place.{Place}
 use Rattle.arena_mem.specs.Places.{Places, splice}
-use Rattle.pb_schema.specs.Tree.{Tree, tick, number_of}
+use Rattle.pb_schema.specs.Tick.Tree.{Tree, tick, number_of}
 use Rattle.arena_run.specs.Stands.{slot_number, IsRecordOf, Stands}
 
 -- zero bytes are the empty message

@@ -9,8 +9,8 @@ use Rattle.std.proofs.lemmas.Bool.{le-leb, lt-leb, cases_eq}
 use Rattle.arena_mem.specs.declared.place.Place.{Place}
 use Rattle.arena_mem.specs.Places.{Places, KeepsRest, AddsAtMostABlock}
 use Rattle.pb_schema.specs.Frames.{frames_of, frame_at, behind}
-use Rattle.pb_schema.specs.Tree.{Tree}
-use Rattle.pb_schema.specs.Decode.{tree_of}
+use Rattle.pb_schema.specs.Tick.Tree.{Tree}
+use Rattle.pb_schema.specs.Tick.Decode.{tree_of}
 use Rattle.pb_schema.proofs.Steps.{frames_more, frames_cut, frames_end}
 use Rattle.arena_run.specs.Plain.{each_tree, trees_within, trees_in, frame_count_limit}
 use Rattle.arena_run.specs.Stands.{IsRecordOf, Stands, AllStand, EachTwo, Differ}

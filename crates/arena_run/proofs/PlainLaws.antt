@@ -4,7 +4,7 @@ use Rattle.std.specs.Prelude.{nat_le}
 use Rattle.std.proofs.lemmas.Bool.{leb-true, le-leb, cond-true}
 use Rattle.std.proofs.lemmas.Option.{none-some}
 use Rattle.pb_schema.specs.Frames.{frames_of}
-use Rattle.pb_schema.specs.Tree.{Tree}
+use Rattle.pb_schema.specs.Tick.Tree.{Tree}
 use Rattle.pb_schema.proofs.FrameLaws.{frames_found, frames_of_frames}
 use Rattle.arena_run.specs.Plain.{frame_bytes_limit, frame_count_limit, each_tree, trees_in, trees_of, IsPlainFile}
 use Rattle.arena_run.proofs.Parsing.{trees_in-Ok, trees_in-Err}

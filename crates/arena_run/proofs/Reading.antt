@@ -3,7 +3,7 @@ use Rattle.std.proofs.Common.{◌≡◌, ◌+◌, ◌-◌, ◌*◌, ◌%◌, ◌
 use Rattle.std.proofs.lemmas.Bool.{cases_lt}
 use Rattle.std.specs.Prelude.{option_and_then}
 use Rattle.pb_schema.specs.Frames.{frame_at}
-use Rattle.pb_schema.specs.Records.{record_at, value_at}
+use Rattle.pb_schema.specs.Tick.Records.{record_at, value_at}
 use Rattle.std.specs.Option.{option_map}
 use Rattle.std.proofs.Math.Nat.{add-mod}
 use Rattle.std.proofs.lemmas.List.{get_or-drop, drop-drop, drop-take}

@@ -2,8 +2,8 @@
 use Rattle.std.specs.Prelude.{◌≡◌, ◌^◌, ◌≤◌, ℕ, List, [], ◌∷◌, length, Option, None, Some, Ok, Err, option_and_then, nat_le, if◌then◌else◌}
 use Rattle.std.specs.Option.{option_map}
 use Rattle.pb_schema.specs.Frames.{Frames, frames_of}
-use Rattle.pb_schema.specs.Tree.{Tree}
-use Rattle.pb_schema.specs.Decode.{tree_of}
+use Rattle.pb_schema.specs.Tick.Tree.{Tree}
+use Rattle.pb_schema.specs.Tick.Decode.{tree_of}
 
 abbrev pub frame_bytes_limit : ℕ
 frame_bytes_limit = 2 ^ 24

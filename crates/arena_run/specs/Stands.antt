@@ -5,7 +5,7 @@ use Rattle.std.specs.List.{AllByRecursion}
 use Rattle.std.specs.FinMap as map
 use Rattle.arena_mem.specs.declared.place.Place.{Place}
 use Rattle.arena_mem.specs.Places.{Places}
-use Rattle.pb_schema.specs.Tree.{Tree, tick}
+use Rattle.pb_schema.specs.Tick.Tree.{Tree, tick}
 
 -- the number in the field's slot, which is the last 8 bytes of the record, the lowest byte first
 unfoldable pub slot_number : List ℕ → ℕ

@@ -1,8 +1,9 @@
 -- What is written for messages.
 use Rattle.std.specs.Prelude.{◌≡◌, ◌<◌, ◌≤◌, ◌++◌, ℕ, List, length, take, Option, None, Some, ⊤}
 use Rattle.std.specs.List.{flat_map}
-use Rattle.pb_schema.specs.Tree.{Tree}
-use Rattle.pb_schema.specs.Text.{text_of, framed}
+use Rattle.pb_schema.specs.Tick.Tree.{Tree}
+use Rattle.pb_schema.specs.Tick.Text.{text_of}
+use Rattle.pb_schema.specs.Text.{framed}
 
 -- the text of each message behind its prefix, in order
 abbrev pub output_of : List Tree → List ℕ

@@ -7,7 +7,7 @@ ghost use Rattle.arena_mem.specs.Places.{KeepsRest, Apart};
 ghost use Rattle.arena_mem.specs.Outside.{Rose};
 ghost use Rattle.serial_arena.specs.Serial.{places_of, buffers_of, IsUnused};
 ghost use Rattle.serial_arena.specs.Key.{key_of};
-ghost use Rattle.pb_schema.specs.Tree.{Tree};
+ghost use Rattle.pb_schema.specs.Tick.Tree.{Tree};
 ghost use Rattle.arena_run.specs.Words.{IsCat, IsOtherCommand};
 ghost use Rattle.arena_run.specs.Contents.{content_of, OfContent, OfTrees, IsThere};
 ghost use Rattle.arena_run.specs.Ends.{status_of, IsParsed, IsUnparsed, IsRead, EndsWell};

@@ -2,7 +2,7 @@
 ghost use Rattle.std.specs.Prelude.{◌≡◌, ◌+◌, ◌-◌, ◌^◌, ◌<◌, ℕ, None, IfOk, OnErr};
 ghost use Rattle.std.specs.FinMap as map;
 ghost use Rattle.arena_mem.specs.Places.{KeepsRest, AddsAtMostABlock};
-ghost use Rattle.pb_schema.specs.Tree.{Tree, tick, number_of};
+ghost use Rattle.pb_schema.specs.Tick.Tree.{Tree, tick, number_of};
 ghost use Rattle.arena_run.specs.Stands.{Stands};
 
 use arena_mem::{MemFault, Memory, NoMemory, Place};

@@ -3,9 +3,9 @@ ghost use Rattle.std.specs.Prelude.{◌≡◌, ◌+◌, ◌≤◌, ◌<◌, ℕ,
 ghost use Rattle.std.specs.Option.{option_map};
 ghost use Rattle.pb_schema.specs.Varint.{varint_at};
 ghost use Rattle.pb_schema.specs.Frames.{frame_at};
-ghost use Rattle.pb_schema.specs.Records.{record_at};
-ghost use Rattle.pb_schema.specs.Tree.{tick};
-ghost use Rattle.pb_schema.specs.Decode.{tree_of};
+ghost use Rattle.pb_schema.specs.Tick.Records.{record_at};
+ghost use Rattle.pb_schema.specs.Tick.Tree.{tick};
+ghost use Rattle.pb_schema.specs.Tick.Decode.{tree_of};
 ghost use Rattle.arena_run.specs.Reading.{moved};
 
 use crate::tick::VALUE_TAG;

@@ -2,8 +2,10 @@
 ghost use Rattle.std.specs.Prelude.{◌≡◌, ◌+◌, ◌*◌, ◌^◌, ◌<◌, ◌≤◌, ◌++◌, List, length, take, IfOk, OnOk, OnErr};
 ghost use Rattle.std.specs.Io.KnownBytes.{Appends, Keeps, append_known};
 ghost use Rattle.arena_mem.specs.Outside.{HasCause};
-ghost use Rattle.pb_schema.specs.Tree.{Tree, tick};
-ghost use Rattle.pb_schema.specs.Text.{varint_of, text_of, framed};
+ghost use Rattle.pb_schema.specs.Tick.Tree.{Tree, tick};
+ghost use Rattle.pb_schema.specs.Varint.{varint_of};
+ghost use Rattle.pb_schema.specs.Tick.Text.{text_of};
+ghost use Rattle.pb_schema.specs.Text.{framed};
 ghost use Rattle.arena_run.specs.Stands.{AllStand};
 ghost use Rattle.arena_run.specs.Written.{output_of, TookPart, KeepsTaken};
 

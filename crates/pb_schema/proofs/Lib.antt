@@ -4,4 +4,7 @@ pub mod Places
 pub mod FrameLaws
 pub mod RecordLaws
 pub mod TextLaws
+pub mod FormLaws
 mod Rows
+mod Examples
+mod TreeExamples

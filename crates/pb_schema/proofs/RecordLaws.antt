@@ -3,9 +3,10 @@ use Rattle.std.proofs.Common.{◌≡◌, ◌≢◌, ◌⊎◌, ℕ, zero, suc, �
 use Rattle.std.proofs.lemmas.List.{drop_at}
 use Rattle.std.proofs.lemmas.Option.{none-some, same_Some}
 use Rattle.pb_schema.specs.Varint.{Varint, varint_at, tag_bytes, value_bytes}
-use Rattle.pb_schema.specs.Records.{tag_of, VarintRecords, record_at, values_of}
-use Rattle.pb_schema.specs.Tree.{Tree, IsHeld, Fitted, held, tick}
-use Rattle.pb_schema.specs.Decode.{last_or_zero, tree_of}
+use Rattle.pb_schema.specs.Tag.{tag_of}
+use Rattle.pb_schema.specs.Tick.Records.{VarintRecords, record_at, values_of}
+use Rattle.pb_schema.specs.Tick.Tree.{Tree, IsHeld, Fitted, held, tick}
+use Rattle.pb_schema.specs.Tick.Decode.{last_or_zero, tree_of}
 use Rattle.pb_schema.proofs.Steps.{option_map_some, record_at_parts, record_at_whole, values_more, values_cut}
 use Rattle.pb_schema.proofs.VarintLaws.{same_cons, varint_at_front, varint_at_found}
 use Rattle.pb_schema.proofs.FrameLaws.{cases_option, cut_twice, drop_two, not_nil}

@@ -2,10 +2,11 @@
 use Rattle.std.proofs.Common.{◌≡◌, ◌-◌, ◌^◌, ℕ, List, [], ◌∷◌, None, Some, Ok, Err, refl}
 use Rattle.pb_schema.specs.Varint.{varint_at}
 use Rattle.pb_schema.specs.Frames.{frame_at, frames_of}
-use Rattle.pb_schema.specs.Records.{values_of}
-use Rattle.pb_schema.specs.Tree.{tick, empty, Nothing, One}
-use Rattle.pb_schema.specs.Decode.{tree_of}
-use Rattle.pb_schema.specs.Text.{text_of, framed}
+use Rattle.pb_schema.specs.Tick.Records.{values_of}
+use Rattle.pb_schema.specs.Tick.Tree.{tick, empty, Nothing, One}
+use Rattle.pb_schema.specs.Tick.Decode.{tree_of}
+use Rattle.pb_schema.specs.Tick.Text.{text_of}
+use Rattle.pb_schema.specs.Text.{framed}
 
 one_hundred_and_fifty : varint_at 10 (150 ∷ 1 ∷ 8 ∷ []) ≡ Some (150, 2)
 one_hundred_and_fifty = refl

@@ -3,12 +3,14 @@ use Rattle.std.proofs.Common.{◌≡◌, ℕ, zero, suc, ◌+◌, ◌-◌, ◌*�
 use Rattle.std.proofs.lemmas.Bool.{cases_lt, lt-ltb, le-ltb, le-leb, eq-eqb, cond-true, cond-false, and_from, and_parts, ltb-true, leb-true, eqb-true}
 use Rattle.std.proofs.lemmas.Option.{none-some, same_Some, option_and_then_some, cond_some}
 use Rattle.std.proofs.lemmas.List.{at_drop_more, at_drop_all, drop_more, take_more}
-use Rattle.pb_schema.specs.Varint.{seven_bits, varint_bytes, varint_at, tag_bytes, value_bytes}
+use Rattle.pb_schema.specs.Varint.{seven_bits, varint_bytes, varint_at, tag_bytes, value_bytes, groups, varint_of}
 use Rattle.pb_schema.specs.Frames.{payload_at, frame_at, behind, frames_from, frames_of}
-use Rattle.pb_schema.specs.Records.{tag_of, value_at, record_at, values_from, values_of}
-use Rattle.pb_schema.specs.Tree.{Tree, Held, Nothing, One, tick}
-use Rattle.pb_schema.specs.Decode.{last_or_zero, tree_of}
-use Rattle.pb_schema.specs.Text.{groups, varint_of, field_text, text_of, framed}
+use Rattle.pb_schema.specs.Tag.{tag_of}
+use Rattle.pb_schema.specs.Tick.Records.{value_at, record_at, values_from, values_of}
+use Rattle.pb_schema.specs.Tick.Tree.{Tree, Held, Nothing, One, tick}
+use Rattle.pb_schema.specs.Tick.Decode.{last_or_zero, tree_of}
+use Rattle.pb_schema.specs.Tick.Text.{field_text, text_of}
+use Rattle.pb_schema.specs.Text.{framed}
 
 -- the value that was mapped
 pub option_map_some : {A B P : Type 0} (f : A → B) (o : Option A) (y : B) → option_map f o ≡ Some y → ((x : A) → o ≡ Some x → f x ≡ y → P) → P

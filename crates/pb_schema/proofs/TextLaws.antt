@@ -1,12 +1,13 @@
 -- What is written is read back.
 use Rattle.std.proofs.Common.{◌≡◌, ℕ, zero, suc, ◌^◌, ◌<◌, List, [], ◌∷◌, ◌++◌, length, Some, Ok, All, flat_map, option_map, refl, sym, ap, arith, append-nil, append_assoc}
 use Rattle.std.proofs.lemmas.List.Elements.{All-head, All-tail}
-use Rattle.pb_schema.specs.Varint.{Varint, tag_bytes}
+use Rattle.pb_schema.specs.Varint.{Varint, tag_bytes, varint_of}
 use Rattle.pb_schema.specs.Frames.{Frames, frames_of}
-use Rattle.pb_schema.specs.Records.{values_of}
-use Rattle.pb_schema.specs.Tree.{Tree, Held, Nothing, One, IsHeld, Fitted, tick}
-use Rattle.pb_schema.specs.Decode.{last_or_zero, tree_of}
-use Rattle.pb_schema.specs.Text.{varint_of, field_text, text_of, framed}
+use Rattle.pb_schema.specs.Tick.Records.{values_of}
+use Rattle.pb_schema.specs.Tick.Tree.{Tree, Held, Nothing, One, IsHeld, Fitted, tick}
+use Rattle.pb_schema.specs.Tick.Decode.{last_or_zero, tree_of}
+use Rattle.pb_schema.specs.Tick.Text.{field_text, text_of}
+use Rattle.pb_schema.specs.Text.{framed}
 use Rattle.pb_schema.proofs.Steps.{length-varint_of}
 use Rattle.pb_schema.proofs.VarintLaws.{varint_of_is, groups_short}
 use Rattle.pb_schema.proofs.FrameLaws.{frames_of_frames}

@@ -4,8 +4,7 @@ use Rattle.std.proofs.lemmas.Bool.{cases_lt}
 use Rattle.std.proofs.lemmas.List.{take_at}
 use Rattle.std.proofs.lemmas.Option.{none-some, same_Some}
 use Rattle.std.proofs.Math.Nat.{mod-le, mod-eq_of_lt}
-use Rattle.pb_schema.specs.Varint.{IsContinued, Varint, seven_bits, varint_bytes, varint_at}
-use Rattle.pb_schema.specs.Text.{groups, varint_of}
+use Rattle.pb_schema.specs.Varint.{IsContinued, Varint, seven_bits, varint_bytes, varint_at, groups, varint_of}
 use Rattle.pb_schema.proofs.Steps.{option_map_some, varint_bytes_last, varint_bytes_more, varint_bytes_within, varint_at_parts, groups_last, groups_more, seven_bits_below}
 
 pub same_cons : {A : Type 0} (a b : A) (s t : List A) → a ∷ s ≡ b ∷ t → (a ≡ b) × (s ≡ t)

@@ -1,31 +1,65 @@
--- Records of a message: a tag and a payload (encoding guide, "Message Structure"). So far those of one field of wire type 0.
-use Rattle.std.specs.Prelude.{◌≡◌, ◌+◌, ◌-◌, ◌*◌, ℕ, zero, suc, List, [], ◌∷◌, ◌++◌, drop, Option, None, Some, ◌==◌, option_and_then, if◌then◌else◌}
+-- Records: a tag and a payload, one after another (encoding guide, "Message Structure" and "Groups").
+use Rattle.std.specs.Prelude.{◌≡◌, ◌-◌, ◌^◌, ◌<◌, ℕ, zero, suc, List, [], ◌∷◌, ◌++◌, length, take, drop, Option, None, Some}
 use Rattle.std.specs.Option.{option_map}
-use Rattle.pb_schema.specs.Varint.{Varint, varint_at, tag_bytes, value_bytes}
+use Rattle.pb_schema.specs.Varint.{Varint, value_bytes, length_bytes}
+use Rattle.pb_schema.specs.Tag.{IsTag}
+use Rattle.pb_schema.specs.Reads.{value_read}
+use Rattle.pb_schema.specs.Form.{Form}
+use Rattle.pb_schema.specs.Walk.{record_left}
 
--- the tag of a record: the field's number and the wire type in one number
-abbrev pub tag_of : ℕ → ℕ → ℕ
-tag_of number wire = number * 8 + wire
+-- a record: its field's number, its wire type, its payload, and its span, which is all of its bytes
+pub record Record : Type 0 where
+  pub number : ℕ
+  pub wire : ℕ
+  pub payload : List ℕ
+  pub span : List ℕ
 
--- the bytes are whole records of this field with wire type 0, and these are their values in order
-abbrev pub VarintRecords : ℕ → List ℕ → List ℕ → Type 0
-VarintRecords number s [] = s ≡ []
-VarintRecords number s (v ∷ vs) = (tag : List ℕ) × (value : List ℕ) × (rest : List ℕ) × (s ≡ tag ++ (value ++ rest)) × Varint tag tag_bytes (tag_of number 0) × Varint value value_bytes v × VarintRecords number rest vs
+-- what stands behind the tag: the payload by itself, a length in front of it, or the end of the group behind it
+abbrev pub Spells : (List ℕ → Type 0) → ℕ → ℕ → List ℕ → List ℕ → Type 0
+Spells AreRecords number zero payload s = (v : ℕ) × Varint payload value_bytes v × (s ≡ payload)
+Spells AreRecords number (suc zero) payload s = (length payload ≡ 8) × (s ≡ payload)
+Spells AreRecords number (suc (suc zero)) payload s = (len : List ℕ) × Varint len length_bytes (length payload) × (length payload < 2 ^ 31) × (s ≡ len ++ payload)
+Spells AreRecords number (suc (suc (suc zero))) payload s = (end : List ℕ) × AreRecords payload × IsTag end number 4 × (s ≡ payload ++ end)
+Spells AreRecords number (suc (suc (suc (suc zero)))) payload s = ⊥
+Spells AreRecords number (suc (suc (suc (suc (suc zero))))) payload s = (length payload ≡ 4) × (s ≡ payload)
+Spells AreRecords number (suc (suc (suc (suc (suc (suc wire)))))) payload s = ⊥
 
--- the value behind a tag of n bytes, and where it ends, if the tag is the field's
-abbrev pub value_at : ℕ → ℕ → ℕ → List ℕ → Option (ℕ × ℕ)
-value_at number tag n s = if tag == tag_of number 0 then option_map (λ value. (value.0, n + value.1)) (varint_at value_bytes (drop n s)) else None
+-- the span is a tag and what stands behind it
+abbrev pub IsRecord : (List ℕ → Type 0) → Record → Type 0
+IsRecord AreRecords r = (tag : List ℕ) × (behind : List ℕ) × IsTag tag r.number r.wire × Spells AreRecords r.number r.wire r.payload behind × (r.span ≡ tag ++ behind)
 
--- the value of such a record at the front, and how many bytes the record has
-abbrev pub record_at : ℕ → List ℕ → Option (ℕ × ℕ)
-record_at number s = option_and_then (λ tag. value_at number tag.0 tag.1 s) (varint_at tag_bytes s)
+-- the spans of the records, in order, are the bytes
+abbrev pub Spans : (List ℕ → Type 0) → List Record → List ℕ → Type 0
+Spans AreRecords [] s = s ≡ []
+Spans AreRecords (r ∷ rs) s = (rest : List ℕ) × IsRecord AreRecords r × (s ≡ r.span ++ rest) × Spans AreRecords rs rest
 
--- the values behind some bytes that are skipped
-abbrev pub values_from : ℕ → ℕ → List ℕ → Option (List ℕ)
-values_from number skip [] = Some []
-values_from number (suc skip) (b ∷ s) = values_from number skip s
-values_from number zero (b ∷ s) = elim (record_at number (b ∷ s)) [ None ↦ None | Some found ↦ option_map (λ vs. found.0 ∷ vs) (values_from number (found.1 - 1) s) ]
+-- bytes that are cut into records, with groups in them that are nested fewer levels than this
+abbrev pub AreRecords : ℕ → List ℕ → Type 0
+AreRecords zero s = ⊥
+AreRecords (suc levels) s = (rs : List Record) × Spans (AreRecords levels) rs s
 
--- the values in order, where the bytes are whole records of this field with wire type 0
-abbrev pub values_of : ℕ → List ℕ → Option (List ℕ)
-values_of number s = values_from number 0 s
+-- the bytes are these records, with groups nested at most so many levels
+abbrev pub RecordsWithin : ℕ → List ℕ → List Record → Type 0
+RecordsWithin levels s rs = Spans (AreRecords levels) rs s
+
+-- the bytes are these records
+abbrev pub Records : List ℕ → List Record → Type 0
+Records s rs = (levels : ℕ) × RecordsWithin levels s rs
+
+-- the record of this form at the front
+abbrev pub record_of : Form → List ℕ → Record
+record_of form s = record { number = form.number; wire = form.wire; payload = take form.payload_len (drop form.payload s); span = take form.size s }
+
+-- the records behind some bytes that are skipped, by a function that finds the first
+abbrev pub records_from : (List ℕ → Option Form) → ℕ → List ℕ → Option (List Record)
+records_from first skip [] = Some []
+records_from first (suc skip) (b ∷ s) = records_from first skip s
+records_from first zero (b ∷ s) = elim (first (b ∷ s)) [ None ↦ None | Some form ↦ option_map (λ rs. record_of form (b ∷ s) ∷ rs) (records_from first (form.size - 1) s) ]
+
+-- the records, where groups are nested at most so many levels
+abbrev pub records_within : ℕ → List ℕ → Option (List Record)
+records_within levels s = records_from (λ s. value_read (record_left [] levels [] 0 s)) 0 s
+
+-- the records; there aren't more levels than bytes
+abbrev pub records_of : List ℕ → Option (List Record)
+records_of s = records_within (length s) s

@@ -1,41 +1,36 @@
--- What a message of `pb.Tick` holds (proto3 language guide, "Specifying Field Types" and "Default Values").
-use Rattle.std.specs.Prelude.{◌^◌, ◌<◌, ℕ, zero, suc, ⊤}
+-- What a message holds: a value, some or none for each of its fields, in the order of the type, and the bytes of the records that fit no field (proto3 guide, "Specifying Field Types" and "Unknown Fields").
+use Rattle.std.specs.Prelude.{ℕ, List, [], ◌∷◌}
 
--- what a singular number field without presence holds; its default, 0, counts as nothing
-pub data Held : Type 0 where
-  Nothing : Held
-  One : ℕ → Held
+mutual
+  -- a number as its bit pattern, the bytes of a text or bytes, or a message
+  pub data Value : Type 0 where
+    Number : ℕ → Value
+    Bytes : List ℕ → Value
+    Sub : Tree → Value
 
--- the tree of a message: its one field, `uint64 value = 1`
-pub record Tree : Type 0 where
-  pub value : Held
+  -- what a field holds: nothing, one value, or a list of them
+  pub data Held : Type 0 where
+    Nothing : Held
+    One : Value → Held
+    Many : ValueList → Held
 
--- a number is a pattern of 64 bits, and a default isn't held
-abbrev pub IsHeld : Held → Type 0
-IsHeld Nothing = ⊤
-IsHeld (One v) = (0 < v) × (v < 2 ^ 64)
+  -- a message: its fields, and its unknown bytes
+  pub data Tree : Type 0 where
+    Message : HeldList → List ℕ → Tree
 
-abbrev pub Fitted : Tree → Type 0
-Fitted t = IsHeld t.value
+  pub data ValueList : Type 0 where
+    NoValues : ValueList
+    ValueAnd : Value → ValueList → ValueList
 
--- a message with nothing set
-abbrev pub empty : Tree
-empty = record { value = Nothing }
+  pub data HeldList : Type 0 where
+    NoFields : HeldList
+    FieldAnd : Held → HeldList → HeldList
 
--- what a field holds once it has this number
-abbrev pub held : ℕ → Held
-held zero = Nothing
-held (suc v) = One (suc v)
+-- lists of values and of fields as the plain data above
+abbrev pub value_list : List Value → ValueList
+value_list [] = NoValues
+value_list (value ∷ values) = ValueAnd value (value_list values)
 
--- the tree whose field has this number
-abbrev pub tick : ℕ → Tree
-tick v = record { value = held v }
-
--- the field's number
-abbrev pub number_in : Held → ℕ
-number_in Nothing = 0
-number_in (One v) = v
-
--- the number of its field
-abbrev pub number_of : Tree → ℕ
-number_of t = number_in t.value
+abbrev pub held_list : List Held → HeldList
+held_list [] = NoFields
+held_list (held ∷ fields) = FieldAnd held (held_list fields)

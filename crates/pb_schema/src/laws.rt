@@ -1,12 +1,13 @@
 //! Laws of the definitions in `specs/`, each the contract of a function that does nothing.
 ghost use Rattle.std.specs.Prelude.{◌≡◌, ◌≢◌, ◌↔◌, ℕ, ◌+◌, ◌-◌, ◌*◌, ◌%◌, ◌^◌, ◌<◌, ◌≤◌, List, [], ◌++◌, length, take, Some, Ok, Err, All, flat_map, map, sum, slice_index};
 ghost use Rattle.std.specs.List.{range_with_len};
-ghost use Rattle.pb_schema.specs.Varint.{Varint, varint_at, tag_bytes, value_bytes};
+ghost use Rattle.pb_schema.specs.Varint.{Varint, varint_at, length_bytes, value_bytes, varint_of};
 ghost use Rattle.pb_schema.specs.Frames.{Frames, frames_of};
-ghost use Rattle.pb_schema.specs.Records.{VarintRecords, values_of};
-ghost use Rattle.pb_schema.specs.Tree.{Tree, Fitted};
-ghost use Rattle.pb_schema.specs.Decode.{tree_of};
-ghost use Rattle.pb_schema.specs.Text.{varint_of, text_of, framed};
+ghost use Rattle.pb_schema.specs.Tick.Records.{VarintRecords, values_of};
+ghost use Rattle.pb_schema.specs.Tick.Tree.{Tree, Fitted};
+ghost use Rattle.pb_schema.specs.Tick.Decode.{tree_of};
+ghost use Rattle.pb_schema.specs.Tick.Text.{text_of};
+ghost use Rattle.pb_schema.specs.Text.{framed};
 
 /// A varint has one to `most` bytes, each but the last at least 128 and the last below 128, and its value is the sum
 /// of the low seven bits of each byte times 128 to the byte's place, modulo 2^64.
@@ -26,7 +27,7 @@ pub fn one_varint()
 pub fn one_framing()
     ensures only { (s : List ℕ) (ps qs : List (List ℕ)) → Frames s ps → Frames s qs → ps ≡ qs }
     ensures exact { (s : List ℕ) (ps : List (List ℕ)) → (frames_of s ≡ Ok ps) ↔ Frames s ps }
-    ensures cut { (s : List ℕ) (n : ℕ) → (frames_of s ≡ Err n) ↔ ((front : List ℕ) × (rest : List ℕ) × (payloads : List (List ℕ)) × (s ≡ front ++ rest) × Frames front payloads × (length payloads ≡ n) × (rest ≢ []) × ((prefix payload tail : List ℕ) → rest ≡ prefix ++ (payload ++ tail) → Varint prefix tag_bytes (length payload) → length payload < 2 ^ 31 → ⊥)) }
+    ensures cut { (s : List ℕ) (n : ℕ) → (frames_of s ≡ Err n) ↔ ((front : List ℕ) × (rest : List ℕ) × (payloads : List (List ℕ)) × (s ≡ front ++ rest) × Frames front payloads × (length payloads ≡ n) × (rest ≢ []) × ((prefix payload tail : List ℕ) → rest ≡ prefix ++ (payload ++ tail) → Varint prefix length_bytes (length payload) → length payload < 2 ^ 31 → ⊥)) }
 {}
 
 /// The same bytes are the records of one list of values at most, and `values_of` finds it exactly where there is

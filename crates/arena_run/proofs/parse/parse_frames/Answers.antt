@@ -2,7 +2,7 @@ use Rattle.std.proofs.Common.{◌≡◌, ◌+◌, ◌≤◌, ◌++◌, [], ◌�
 use Rattle.arena_mem.specs.declared.place.Place.{Place}
 use Rattle.std.proofs.lemmas.List.{length_push}
 use Rattle.pb_schema.specs.Frames.{frame_at}
-use Rattle.pb_schema.specs.Tree.{tick}
+use Rattle.pb_schema.specs.Tick.Tree.{tick}
 use Rattle.arena_run.proofs.Reading.{found_from_moved, none_from_moved}
 use Rattle.arena_run.proofs.Parsing.{ParsedTo, parsed_none, parsed_more, parsed_all, cut_frame, bad_payload, too_many_frames, blocks_within}
 use Rattle.arena_run.proofs.parse.parse_frames.Goals as goal

@@ -1,7 +1,7 @@
 use Rattle.std.proofs.Common.{◌<◌, ap, sym, ◌∙◌, take, drop, length, length-take, arith}
 use Rattle.std.specs.Option.{option_map}
-use Rattle.pb_schema.specs.Records.{record_at}
-use Rattle.pb_schema.specs.Tree.{tick}
+use Rattle.pb_schema.specs.Tick.Records.{record_at}
+use Rattle.pb_schema.specs.Tick.Tree.{tick}
 use Rattle.pb_schema.proofs.Steps.{last_after, last_after_none, last_after_more, last_after_cut}
 use Rattle.arena_run.proofs.Reading.{found_from_moved, none_from_moved}
 use Rattle.arena_run.proofs.wire.read_value.Goals as goal

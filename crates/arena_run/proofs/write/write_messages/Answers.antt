@@ -4,7 +4,7 @@ use Rattle.std.specs.Io.KnownBytes.{Appends}
 use Rattle.std.proofs.Common.{subst}
 use Rattle.std.proofs.lemmas.List.{take_all}
 use Rattle.std.proofs.lemmas.Result.{on_ok_weaker, on_err_weaker}
-use Rattle.pb_schema.specs.Tree.{Tree}
+use Rattle.pb_schema.specs.Tick.Tree.{Tree}
 use Rattle.arena_run.specs.Stands.{AllStand}
 use Rattle.arena_run.specs.Written.{output_of}
 use Rattle.arena_mem.specs.Places.{Places}

@@ -1,6 +1,6 @@
 use Rattle.std.proofs.Common.{◌≡◌, ◌≤◌, List, length, take}
 use Rattle.std.specs.Io.KnownBytes.{Appends, append_known}
-use Rattle.pb_schema.specs.Tree.{Tree}
+use Rattle.pb_schema.specs.Tick.Tree.{Tree}
 use Rattle.arena_run.specs.Stands.{AllStand}
 use Rattle.arena_run.specs.Written.{output_of, KeepsTaken}
 use Rattle.arena_run.proofs.write.write_messages.Given as goal

@@ -1,8 +1,8 @@
--- What the bytes of a message stand for (encoding guide, "Last One Wins").
+-- What the bytes of a plain payload of `pb.Tick` stand for: the part of the definitions that `arena_run` cites (encoding guide, "Last One Wins").
 use Rattle.std.specs.Prelude.{ℕ, List, [], ◌∷◌, Option}
 use Rattle.std.specs.Option.{option_map}
-use Rattle.pb_schema.specs.Records.{values_of}
-use Rattle.pb_schema.specs.Tree.{Tree, tick}
+use Rattle.pb_schema.specs.Tick.Records.{values_of}
+use Rattle.pb_schema.specs.Tick.Tree.{Tree, tick}
 
 -- the last of some values, or the default
 abbrev pub last_or_zero : List ℕ → ℕ
