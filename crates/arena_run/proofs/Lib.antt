@@ -7,3 +7,4 @@ pub mod Parsing
 pub mod PlainLaws
 pub mod Taken
 pub mod Counted
+pub mod Window

@@ -6,7 +6,7 @@ use Rattle.pb_schema.specs.Frames.{frame_at}
 use Rattle.pb_schema.specs.Records.{record_at, value_at}
 use Rattle.std.specs.Option.{option_map}
 use Rattle.std.proofs.Math.Nat.{add-mod}
-use Rattle.std.proofs.lemmas.List.{get_or-drop, drop-drop}
+use Rattle.std.proofs.lemmas.List.{get_or-drop, drop-drop, drop-take}
 use Rattle.pb_schema.specs.Varint.{seven_bits, varint_at, tag_bytes, value_bytes}
 use Rattle.pb_schema.proofs.Steps.{ContinuedTo, continued_none, continued_more, continued_value, continued_cut, continued_long, seven_bits_more, frame_at_whole}
 use Rattle.arena_run.specs.Reading.{moved}
@@ -91,15 +91,14 @@ read_cut bytes start most i value so_far past =
     moved_none (varint_at most s) start (⊎_elim (continued_cut most s i so_far.continued) (continued_long most s i so_far.continued) end)
 
 -- the frame whose payload has `len` bytes behind its prefix
-pub frame_read : (bytes : List ℕ) (start len at : ℕ) → Some (len, at) ≡ moved start (varint_at tag_bytes (drop start bytes)) → len < 2 ^ 31 → at + len ≤ length bytes → Some (take (at + len - at) (drop at bytes), at + len) ≡ moved start (frame_at (drop start bytes))
+pub frame_read : (bytes : List ℕ) (start len at : ℕ) → Some (len, at) ≡ moved start (varint_at tag_bytes (drop start bytes)) → len < 2 ^ 31 → at + len ≤ length bytes → Some (drop at (take (at + len) bytes), at + len) ≡ moved start (frame_at (drop start bytes))
 frame_read bytes start len at read short fits =
     let s = drop start bytes in
     let prefix = found_from_moved (varint_at tag_bytes s) start len at read in
     let ends = prefix.end_is in
     let inside : prefix.bytes + len ≤ length s = omega (arith, length-drop start bytes) in
-    let same_len : at + len - at ≡ len = omega arith in
     let same_place : drop at bytes ≡ drop prefix.bytes s = ap (λ k. drop k bytes) ends ∙ sym (drop-drop prefix.bytes start bytes) in
-    let payload : take (at + len - at) (drop at bytes) ≡ take len (drop prefix.bytes s) = ap (λ k. take k (drop at bytes)) same_len ∙ ap (take len) same_place in
+    let payload : drop at (take (at + len) bytes) ≡ take len (drop prefix.bytes s) = drop-take at len bytes ∙ ap (take len) same_place in
     let wrap : List ℕ → Option (List ℕ × ℕ) = λ p. Some (p, at + len) in
     ap wrap payload ∙ moved_some (frame_at s) start _ (prefix.bytes + len) (at + len) (frame_at_whole s len prefix.bytes prefix.is short inside) (omega arith)
 

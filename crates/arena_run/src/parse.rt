@@ -39,13 +39,13 @@ pub fn parse_frames<M: Memory>(
     let mut messages = room_for_messages(alloc, bytes.len())?;
     let mut at = 0;
     while at < bytes.len() {
-        let Some((payload, end)) = read_frame(bytes, at) else {
+        let Some((start, end)) = read_frame(bytes, at) else {
             return Err(ParseEnd::NotPlain);
         };
         if messages.len() >= FRAME_COUNT_LIMIT {
             return Err(ParseEnd::NotPlain);
         }
-        let Some(value) = read_value(payload) else {
+        let Some(value) = read_value(bytes, start, end) else {
             return Err(ParseEnd::NotPlain);
         };
         let Ok(message) = tick::create(mem, value) else {

@@ -79,7 +79,7 @@ fn check_refused(
 
 #[test]
 fn messages_are_written_again(rt: HostRuntime) -> Result<(), Fail> {
-    let rows: [(&str, &[u8], &[u8], u32); 7] = [
+    let rows: [(&str, &[u8], &[u8], u32); 8] = [
         ("a set field", b"\x03\x08\x96\x01", b"\x03\x08\x96\x01", 1),
         (
             "the last record wins",
@@ -102,6 +102,12 @@ fn messages_are_written_again(rt: HostRuntime) -> Result<(), Fail> {
             b"\x0b\x08\xff\xff\xff\xff\xff\xff\xff\xff\xff\x01",
             1,
         ),
+        (
+            "a short value and a long one",
+            b"\x03\x08\x96\x01\x09\x08\xff\xff\xff\xff\xff\xff\xff\x01",
+            b"\x03\x08\x96\x01\x09\x08\xff\xff\xff\xff\xff\xff\xff\x01",
+            2,
+        ),
     ];
     for (name, content, written, messages) in rows {
         let end = end_of_run(rt.alloc(), &CAT, content, &[], 65536, &[])?;
@@ -114,7 +120,12 @@ fn messages_are_written_again(rt: HostRuntime) -> Result<(), Fail> {
 
 #[test]
 fn other_files_and_words_are_refused(rt: HostRuntime) -> Result<(), Fail> {
-    let contents: [(&str, &[u8], u64); 4] = [
+    let contents: [(&str, &[u8], u64); 5] = [
+        (
+            "a value that goes on behind its frame",
+            b"\x02\x08\x80\x03\x08\x96\x01\x03\x08\x96\x01",
+            0,
+        ),
         (
             "a group behind a plain frame",
             b"\x02\x08\x01\x04\x13\x08\x01\x14",

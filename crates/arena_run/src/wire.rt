@@ -1,5 +1,5 @@
 // Reading varints, frames and records at a place of the bytes.
-ghost use Rattle.std.specs.Prelude.{◌≡◌, ◌≤◌, ◌<◌, ℕ, length, drop, IfSome};
+ghost use Rattle.std.specs.Prelude.{◌≡◌, ◌+◌, ◌≤◌, ◌<◌, ℕ, length, take, drop, Some, IfSome};
 ghost use Rattle.std.specs.Option.{option_map};
 ghost use Rattle.pb_schema.specs.Varint.{varint_at};
 ghost use Rattle.pb_schema.specs.Frames.{frame_at};
@@ -44,11 +44,56 @@ fn read_varint(bytes: &[u8], start: usize, most: usize) -> Option<(u64, usize)>
     None
 }
 
-/// The payload of the frame at `start`, and where the frame ends; none where no whole frame stands there.
-pub fn read_frame(bytes: &[u8], start: usize) -> Option<(&[u8], usize)>
+// Values of more bytes are rare, and are read byte by byte.
+const WINDOW_BYTES: usize = 8;
+
+// The varint of at most 8 bytes at `start`. All 8 are read, and those behind its end count for nothing: how many bytes a
+// value has can't be foreseen, and a branch on each costs more.
+#[inline]
+fn read_window(bytes: &[u8], start: usize) -> Option<(u64, usize)>
+    requires { start + 8 ≤ length bytes.now }
+    ensures { IfSome result (λ found. varint_at 10 (drop start bytes.now) ≡ Some found) }
+{
+    let mut value = 0u64;
+    let mut count = 0;
+    // 1 while the varint goes on, 0 behind its end.
+    let mut more = 1;
+    for i in 0..WINDOW_BYTES {
+        let byte = bytes[start + i];
+        value = value.wrapping_add((u64::from(byte % 128) * more) << (7 * i));
+        count += more as usize;
+        more *= u64::from(byte / 128);
+    }
+    if more == 0 {
+        Some((value, count))
+    } else {
+        None
+    }
+}
+
+// The varint of a value at `start`, which ends before `end`.
+#[inline]
+fn read_long(bytes: &[u8], start: usize, end: usize) -> Option<(u64, usize)>
+    requires start { start ≤ end }
+    requires end { end ≤ length bytes.now }
+    ensures found { result ≡ moved start (varint_at 10 (drop start (take end bytes.now))) }
+    ensures bound { IfSome result (λ found. (start < found.1) × (found.1 ≤ end)) }
+{
+    if bytes.len() - start >= WINDOW_BYTES {
+        if let Some((value, count)) = read_window(bytes, start) {
+            if count <= end - start {
+                return Some((value, start + count));
+            }
+        }
+    }
+    read_varint(&bytes[..end], start, VALUE_BYTES)
+}
+
+/// Where the payload of the frame at `start` begins, and where it ends; none where no whole frame stands there.
+pub fn read_frame(bytes: &[u8], start: usize) -> Option<(usize, usize)>
     requires { start ≤ length bytes.now }
-    ensures found { option_map (λ frame. (frame.0.now, frame.1)) result ≡ moved start (frame_at (drop start bytes.now)) }
-    ensures bound { IfSome result (λ frame. (start < frame.1) × (frame.1 ≤ length bytes.now)) }
+    ensures found { option_map (λ frame. (drop frame.0 (take frame.1 bytes.now), frame.1)) result ≡ moved start (frame_at (drop start bytes.now)) }
+    ensures bound { IfSome result (λ frame. (start < frame.1) × (frame.0 ≤ frame.1) × (frame.1 ≤ length bytes.now)) }
 {
     let (len, at) = read_varint(bytes, start, TAG_BYTES)?;
     if len >= LENGTH_END {
@@ -58,33 +103,37 @@ pub fn read_frame(bytes: &[u8], start: usize) -> Option<(&[u8], usize)>
     if bytes.len() - at < len {
         return None;
     }
-    Some((&bytes[at..at + len], at + len))
+    Some((at, at + len))
 }
 
-// The value of the record of field 1 at `start`, and where the record ends.
+// The value of the record of field 1 at `start`, which ends before `end`, and where the record ends.
 #[inline]
-fn read_record(payload: &[u8], start: usize) -> Option<(u64, usize)>
-    requires { start ≤ length payload.now }
-    ensures found { result ≡ moved start (record_at 1 (drop start payload.now)) }
-    ensures bound { IfSome result (λ found. (start < found.1) × (found.1 ≤ length payload.now)) }
+fn read_record(bytes: &[u8], start: usize, end: usize) -> Option<(u64, usize)>
+    requires start { start ≤ end }
+    requires end { end ≤ length bytes.now }
+    ensures found { result ≡ moved start (record_at 1 (drop start (take end bytes.now))) }
+    ensures bound { IfSome result (λ found. (start < found.1) × (found.1 ≤ end)) }
 {
-    let (tag, at) = read_varint(payload, start, TAG_BYTES)?;
+    let (tag, at) = read_varint(&bytes[..end], start, TAG_BYTES)?;
     if tag != u64::from(VALUE_TAG) {
         return None;
     }
-    read_varint(payload, at, VALUE_BYTES)
+    read_long(bytes, at, end)
 }
 
-/// The number of the field in a payload: its last value, or the default; none where the payload isn't plain.
-pub fn read_value(payload: &[u8]) -> Option<u64>
-    ensures { option_map tick result ≡ tree_of payload.now }
+/// The number of the field in the payload from `start` to `end`: its last value, or the default; none where the payload
+/// isn't plain.
+pub fn read_value(bytes: &[u8], start: usize, end: usize) -> Option<u64>
+    requires start { start ≤ end }
+    requires end { end ≤ length bytes.now }
+    ensures { option_map tick result ≡ tree_of (drop start (take end bytes.now)) }
 {
     let mut value = 0;
-    let mut at = 0;
-    while at < payload.len() {
-        let (next, end) = read_record(payload, at)?;
+    let mut at = start;
+    while at < end {
+        let (next, behind) = read_record(bytes, at, end)?;
         value = next;
-        at = end;
+        at = behind;
     }
     Some(value)
 }

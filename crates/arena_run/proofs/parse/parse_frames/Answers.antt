@@ -1,4 +1,4 @@
-use Rattle.std.proofs.Common.{◌≡◌, ◌+◌, ◌≤◌, ◌++◌, [], ◌∷◌, cond, List, length, drop, refl, sym, ap, ◌∙◌, subst, arith}
+use Rattle.std.proofs.Common.{◌≡◌, ◌+◌, ◌≤◌, ◌++◌, [], ◌∷◌, cond, List, length, take, drop, refl, sym, ap, ◌∙◌, subst, arith}
 use Rattle.arena_mem.specs.declared.place.Place.{Place}
 use Rattle.std.proofs.lemmas.List.{length_push}
 use Rattle.pb_schema.specs.Frames.{frame_at}
@@ -32,15 +32,18 @@ pub returns-then-len-ge-FRAME_COUNT_LIMIT-clause-not_plain : goal.returns-then-l
 returns-then-len-ge-FRAME_COUNT_LIMIT-clause-not_plain g c = λ _.
     let bytes = c.args.bytes.now in
     let at = c.loop-at.at in
-    let found = found_from_moved (frame_at (drop at bytes)) at c.in-Some.payload.now c.in-Some.end c.in-Some.ensures.found in
-    too_many_frames bytes at _ c.loop-at.messages.items c.in-Some.payload.now found.bytes c.loop-at.invariant.parsed c.loop-at-test.true found.is (omega (arith, c.loop-at.messages.ok.0))
+    let found = found_from_moved (frame_at (drop at bytes)) at (drop c.in-Some.start (take c.in-Some.end c.args.bytes.now)) c.in-Some.end c.in-Some.ensures.found in
+    too_many_frames bytes at _ c.loop-at.messages.items (drop c.in-Some.start (take c.in-Some.end c.args.bytes.now)) found.bytes c.loop-at.invariant.parsed c.loop-at-test.true found.is (omega (arith, c.loop-at.messages.ok.0))
 
 pub returns-in_default-read_value-clause-not_plain : goal.returns-in_default-read_value-clause-not_plain
 returns-in_default-read_value-clause-not_plain g c = λ _.
     let bytes = c.args.bytes.now in
     let at = c.loop-at.at in
-    let found = found_from_moved (frame_at (drop at bytes)) at c.in-Some.payload.now c.in-Some.end c.in-Some.ensures.found in
-    bad_payload bytes at _ c.loop-at.messages.items c.in-Some.payload.now found.bytes c.loop-at.invariant.parsed c.loop-at-test.true found.is (sym c.in_default-read_value.ensures)
+    let found = found_from_moved (frame_at (drop at bytes)) at (drop c.in-Some.start (take c.in-Some.end c.args.bytes.now)) c.in-Some.end c.in-Some.ensures.found in
+    bad_payload bytes at _ c.loop-at.messages.items (drop c.in-Some.start (take c.in-Some.end c.args.bytes.now)) found.bytes c.loop-at.invariant.parsed c.loop-at-test.true found.is (sym c.in_default-read_value.ensures)
+
+pub returns-in_default-create-clause-rest : goal.returns-in_default-create-clause-rest
+returns-in_default-create-clause-rest g c = λ q was live. c.create.ensures.rest q was (c.loop-at.invariant.rest q was live)
 
 pub loop-at-preserved : goal.loop-at-preserved
 loop-at-preserved g c =
@@ -48,10 +51,10 @@ loop-at-preserved g c =
     let bytes = c.args.bytes.now in
     let at = c.loop-at.at in
     let before = c.loop-at.messages.items in
-    let found = found_from_moved (frame_at (drop at bytes)) at c.in-Some.payload.now c.in-Some.end c.in-Some.ensures.found in
+    let found = found_from_moved (frame_at (drop at bytes)) at (drop c.in-Some.start (take c.in-Some.end c.args.bytes.now)) c.in-Some.end c.in-Some.ensures.found in
     let pushed : c.push.new.self.items ≡ before ++ c.in-Ok.message ∷ [] = ◌∙◌ {A = List Place} c.push.ensures.items (ap (λ b. cond b (before ++ c.in-Ok.message ∷ []) before) c.if-is_err.ensures.negation) in
     let count : length c.push.new.self.items ≡ length before + 1 = ap length pushed ∙ length_push before c.in-Ok.message in
-    let parsed = parsed_more bytes at (M.places c.loop-at.mem) (M.places c.create.new.mem) before c.in-Some.payload.now found.bytes (tick c.in-Some-read_value.value) c.in-Ok.message
+    let parsed = parsed_more bytes at (M.places c.loop-at.mem) (M.places c.create.new.mem) before (drop c.in-Some.start (take c.in-Some.end c.args.bytes.now)) found.bytes (tick c.in-Some-read_value.value) c.in-Ok.message
     c.loop-at.invariant.parsed c.loop-at-test.true found.is (sym c.in-Some-read_value.ensures) c.in-Ok.ensures.fresh c.in-Ok.ensures.stands c.create.ensures.rest in
     record {
       within = omega (arith, c.in-Some.ensures.bound);

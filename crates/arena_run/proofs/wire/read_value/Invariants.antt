@@ -1,4 +1,4 @@
-use Rattle.std.proofs.Common.{◌≡◌, ◌-◌, ◌≤◌, length, drop}
+use Rattle.std.proofs.Common.{◌≡◌, ◌-◌, ◌≤◌, take, drop}
 use Rattle.pb_schema.proofs.Steps.{last_after}
 use Rattle.arena_run.proofs.wire.read_value.Given as goal
 
@@ -6,9 +6,9 @@ use Rattle.arena_run.proofs.wire.read_value.Given as goal
 abbrev pub invariant-loop-at : goal.invariant-loop-at
 invariant-loop-at l =
     record {
-      within : l.at ≤ length l.payload;
-      last : last_after 1 l.value (drop l.at l.payload) ≡ last_after 1 0 l.payload;
+      within : l.at ≤ l.fn.end;
+      last : last_after 1 l.value (drop l.at (take l.fn.end l.fn.bytes)) ≡ last_after 1 0 (drop l.fn.start (take l.fn.end l.fn.bytes));
     }
 
 abbrev pub decreases-loop-at : goal.decreases-loop-at
-decreases-loop-at l = length l.payload - l.at
+decreases-loop-at l = l.fn.end - l.at
