@@ -5,6 +5,7 @@ pub mod FrameLaws
 pub mod RecordLaws
 pub mod TextLaws
 pub mod FormLaws
+pub mod WalkSteps
 mod Rows
 mod Examples
 mod TreeExamples
