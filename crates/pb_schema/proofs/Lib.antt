@@ -6,6 +6,8 @@ pub mod RecordLaws
 pub mod TextLaws
 pub mod FormLaws
 pub mod WalkSteps
+pub mod RecordsFound
+pub mod RecordsFront
 mod Rows
 mod Examples
 mod TreeExamples

@@ -1,14 +1,14 @@
 -- Steps of a reader of records: what the definition says one record on.
-use Rattle.std.proofs.Common.{◌≡◌, ◌≢◌, ℕ, zero, suc, ◌+◌, ◌-◌, ◌≤◌, ◌<◌, List, [], ◌∷◌, length, take, drop, Bool, true, false, Option, None, Some, Result, Ok, Err, refl, sym, ap, ◌∙◌, subst, arith, eqb, drop-drop, length-drop}
+use Rattle.std.proofs.Common.{◌≡◌, ◌≢◌, ℕ, zero, suc, ◌+◌, ◌-◌, ◌≤◌, List, [], ◌∷◌, length, take, drop, Bool, true, false, Option, Some, Result, Ok, Err, refl, ap, ◌∙◌, arith, eqb}
 use Rattle.std.proofs.lemmas.Bool.{eq-eqb, ne_eqb}
 use Rattle.pb_schema.specs.declared.kind.FieldType.{FieldType}
 use Rattle.pb_schema.specs.declared.schema.MessageType.{MessageType}
-use Rattle.pb_schema.specs.declared.wire_fault.WireKind.TheVariants.{Cut, GroupEnd, TooDeep}
+use Rattle.pb_schema.specs.declared.wire_fault.WireKind.TheVariants.{GroupEnd}
 use Rattle.pb_schema.specs.declared.wire_fault.WireFault.{WireFault}
 use Rattle.pb_schema.specs.Reads.{fault, ◌>>=◌}
 use Rattle.pb_schema.specs.Fits.{contents_of, group_fields}
 use Rattle.pb_schema.specs.Form.{Form, form_at}
-use Rattle.pb_schema.specs.Walk.{Stop, Deeper, read_contents, closed, read_held, ends, at_end, walk, walk_left, deeper_left, too_deep, record_left}
+use Rattle.pb_schema.specs.Walk.{Stop, Deeper, read_contents, closed, read_held, ends, walk, walk_left, deeper_left}
 
 -- bytes that are skipped are dropped
 pub walk-skip : (types : List MessageType) (deeper : Deeper) (fields : List FieldType) (group : Option ℕ) (skip at : ℕ) (s : List ℕ) → skip ≤ length s → walk types deeper fields group at skip s ≡ walk types deeper fields group (at + skip) 0 (drop skip s)
@@ -22,13 +22,13 @@ walk-skip types deeper fields group (suc skip) at (b ∷ s) h =
     walk-skip types deeper fields group skip (suc at) s (omega (arith, h)) ∙ ap (λ n. walk types deeper fields group n 0 (drop skip s)) here
 
 -- what the form of the record at the front makes of the walk
-abbrev after_whole : List MessageType → Deeper → List FieldType → Option ℕ → ℕ → List ℕ → Result Form WireFault → Result Stop WireFault
+abbrev pub after_whole : List MessageType → Deeper → List FieldType → Option ℕ → ℕ → List ℕ → Result Form WireFault → Result Stop WireFault
 after_whole types deeper fields group at s r = r >>= λ whole. walk types deeper fields group (suc at) (whole.size - 1) s
 
-abbrev after_ends : List MessageType → Deeper → List FieldType → Option ℕ → ℕ → ℕ → List ℕ → Form → Bool → Result Stop WireFault
+abbrev pub after_ends : List MessageType → Deeper → List FieldType → Option ℕ → ℕ → ℕ → List ℕ → Form → Bool → Result Stop WireFault
 after_ends types deeper fields group at b s form is_end = elim is_end [ true ↦ Ok (at, at + form.size) | false ↦ after_whole types deeper fields group at s (read_held types deeper fields at (b ∷ s) form) ]
 
-abbrev after_form : List MessageType → Deeper → List FieldType → Option ℕ → ℕ → ℕ → List ℕ → Result Form WireFault → Result Stop WireFault
+abbrev pub after_form : List MessageType → Deeper → List FieldType → Option ℕ → ℕ → ℕ → List ℕ → Result Form WireFault → Result Stop WireFault
 after_form types deeper fields group at b s r = r >>= λ form. after_ends types deeper fields group at b s form (ends group form)
 
 walk_front : (types : List MessageType) (deeper : Deeper) (fields : List FieldType) (group : Option ℕ) (at b : ℕ) (s : List ℕ) → walk types deeper fields group at 0 (b ∷ s) ≡ after_form types deeper fields group at b s (form_at at (b ∷ s))
@@ -68,13 +68,15 @@ walk_more types deeper fields group at (b ∷ s) form whole e goes_on held some 
 
 abbrev if_group : List MessageType → Deeper → List FieldType → ℕ → List ℕ → Form → Bool → Result Form WireFault
 if_group types deeper fields at s form is_end = elim is_end [
-    true ↦ fault GroupEnd at
-  | false ↦ read_contents types deeper at (at + form.payload) (take form.payload_len (drop form.payload s)) (contents_of fields form.number form.wire) >>= λ _. Ok form ]
+  | true ↦ fault GroupEnd at
+  | false ↦ read_contents types deeper at (at + form.payload) (take form.payload_len (drop form.payload s)) (contents_of fields form.number form.wire) >>= λ _. Ok form
+]
 
 abbrev if_start : List MessageType → Deeper → List FieldType → ℕ → List ℕ → Form → Bool → Result Form WireFault
 if_start types deeper fields at s form is_start = elim is_start [
-    true ↦ deeper at (group_fields types fields form.number) (Some form.number) (at + form.payload) (drop form.payload s) >>= λ stop. Ok (closed form at stop)
-  | false ↦ if_group types deeper fields at s form (eqb form.wire 4) ]
+  | true ↦ deeper at (group_fields types fields form.number) (Some form.number) (at + form.payload) (drop form.payload s) >>= λ stop. Ok (closed form at stop)
+  | false ↦ if_group types deeper fields at s form (eqb form.wire 4)
+]
 
 held_cases : (types : List MessageType) (deeper : Deeper) (fields : List FieldType) (at : ℕ) (s : List ℕ) (form : Form) → read_held types deeper fields at s form ≡ if_start types deeper fields at s form (eqb form.wire 3)
 held_cases types deeper fields at s form = refl

@@ -3,6 +3,7 @@ ghost use Rattle.std.specs.Prelude.{◌≡◌, ◌≢◌, ◌↔◌, ℕ, ◌+�
 ghost use Rattle.std.specs.List.{range_with_len};
 ghost use Rattle.pb_schema.specs.Varint.{Varint, varint_at, length_bytes, value_bytes, varint_of};
 ghost use Rattle.pb_schema.specs.Frames.{Frames, frames_of};
+ghost use Rattle.pb_schema.specs.Records.{Record, Records, RecordsWithin, records_of, records_within};
 ghost use Rattle.pb_schema.specs.Tick.Records.{VarintRecords, values_of};
 ghost use Rattle.pb_schema.specs.Tick.Tree.{Tree, Fitted};
 ghost use Rattle.pb_schema.specs.Tick.Decode.{tree_of};
@@ -40,6 +41,14 @@ pub fn one_list_of_values()
 /// The number in a tree that was read is below 2^64, and isn't the default.
 pub fn trees_are_fitted()
     ensures { (s : List ℕ) (t : Tree) → tree_of s ≡ Some t → Fitted t }
+{}
+
+/// The same bytes are cut into one list of records at most, however deep groups are nested in them, and `records_of`
+/// finds it exactly where there is one; so does `records_within` where groups are nested at most so many levels.
+pub fn one_list_of_records()
+    ensures only { (s : List ℕ) (rs qs : List Record) → Records s rs → Records s qs → rs ≡ qs }
+    ensures exact { (s : List ℕ) (rs : List Record) → (records_of s ≡ Some rs) ↔ Records s rs }
+    ensures within { (levels : ℕ) (s : List ℕ) (rs : List Record) → (records_within levels s ≡ Some rs) ↔ RecordsWithin levels s rs }
 {}
 
 /// What is written for a number of 64 bits is a varint of it, and no varint of it has fewer bytes.

@@ -14,8 +14,8 @@ mod wire_fault;
 
 pub use kind::{Card, FieldType, Kind};
 pub use laws::{
-    one_framing, one_list_of_values, one_varint, shortest_varint, text_is_read_back,
-    trees_are_fitted, varint_by_places,
+    one_framing, one_list_of_records, one_list_of_values, one_varint, shortest_varint,
+    text_is_read_back, trees_are_fitted, varint_by_places,
 };
 pub use lists::{ByteList, FieldList, Name};
 pub use no_memory::NoMemory;
