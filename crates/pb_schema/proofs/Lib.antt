@@ -8,6 +8,8 @@ pub mod FormLaws
 pub mod WalkSteps
 pub mod RecordsFound
 pub mod RecordsFront
+pub mod MergeLaws
+pub mod FaultLaws
 mod Rows
 mod Examples
 mod TreeExamples

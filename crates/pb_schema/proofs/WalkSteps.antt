@@ -66,13 +66,13 @@ walk_more types deeper fields group at (b ∷ s) form whole e goes_on held some 
 
 -- WHAT A RECORD HOLDS
 
-abbrev if_group : List MessageType → Deeper → List FieldType → ℕ → List ℕ → Form → Bool → Result Form WireFault
+abbrev pub if_group : List MessageType → Deeper → List FieldType → ℕ → List ℕ → Form → Bool → Result Form WireFault
 if_group types deeper fields at s form is_end = elim is_end [
   | true ↦ fault GroupEnd at
   | false ↦ read_contents types deeper at (at + form.payload) (take form.payload_len (drop form.payload s)) (contents_of fields form.number form.wire) >>= λ _. Ok form
 ]
 
-abbrev if_start : List MessageType → Deeper → List FieldType → ℕ → List ℕ → Form → Bool → Result Form WireFault
+abbrev pub if_start : List MessageType → Deeper → List FieldType → ℕ → List ℕ → Form → Bool → Result Form WireFault
 if_start types deeper fields at s form is_start = elim is_start [
   | true ↦ deeper at (group_fields types fields form.number) (Some form.number) (at + form.payload) (drop form.payload s) >>= λ stop. Ok (closed form at stop)
   | false ↦ if_group types deeper fields at s form (eqb form.wire 4)
