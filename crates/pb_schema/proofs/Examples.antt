@@ -1,5 +1,5 @@
 -- Worked examples over the built-in types, computed by the definitions. Bytes are decimal.
-use Rattle.std.proofs.Common.{◌≡◌, ℕ, zero, suc, List, [], ◌∷◌, None, Some, refl}
+use Rattle.std.proofs.Common.{◌≡◌, ℕ, zero, suc, List, [], ◌∷◌, ◌++◌, length, None, Some, Ok, Err, refl}
 use Rattle.std.specs.Prelude.{Option, option_and_then}
 use Rattle.std.specs.Option.{option_map}
 use Rattle.std.specs.Str.{is_utf8, chars}
@@ -9,8 +9,10 @@ use Rattle.pb_schema.specs.declared.wire_fault.WireKind.{WireKind}
 use Rattle.pb_schema.specs.declared.wire_fault.WireKind.TheVariants.{Cut, LongVarint, BadTag, BadLength, GroupEnd, TooDeep, NotUtf8}
 use Rattle.pb_schema.specs.Builtin.{builtin}
 use Rattle.pb_schema.specs.Fault.{fault_of}
+use Rattle.pb_schema.specs.Records.{records_of, records_within}
 use Rattle.pb_schema.specs.TreeOf.{tree_of}
 use Rattle.pb_schema.specs.Merge.{merge_of}
+use Rattle.pb_schema.specs.Units.{units_of}
 use Rattle.pb_schema.specs.Depth.{depth_of}
 use Rattle.pb_schema.specs.Text.{text_of, framed}
 
@@ -198,3 +200,170 @@ bytes_need_not_be_text = refl
 a_string_in_a_number_field : rewritten 1 (18 ∷ 1 ∷ 97 ∷ []) ≡ Some (18 ∷ 1 ∷ 97 ∷ [])
 unfolding with_text
 a_string_in_a_number_field = refl
+
+-- Payloads by hand
+
+an_empty_text_is_a_default : rewritten 1 (10 ∷ 0 ∷ []) ≡ Some []
+unfolding with_text
+an_empty_text_is_a_default = refl
+
+the_last_text_wins_also_where_it_is_empty : rewritten 1 (10 ∷ 1 ∷ 97 ∷ 10 ∷ 0 ∷ []) ≡ Some []
+unfolding with_text
+the_last_text_wins_also_where_it_is_empty = refl
+
+a_member_with_its_default : rewritten 1 (58 ∷ 0 ∷ []) ≡ Some (58 ∷ 0 ∷ [])
+unfolding with_text
+a_member_with_its_default = refl
+
+the_last_member_is_set : rewritten 1 (66 ∷ 0 ∷ 58 ∷ 1 ∷ 97 ∷ []) ≡ Some (58 ∷ 1 ∷ 97 ∷ [])
+unfolding with_text
+the_last_member_is_set = refl
+
+the_last_run_alone_counts : rewritten 1 (66 ∷ 2 ∷ 16 ∷ 1 ∷ 58 ∷ 0 ∷ 66 ∷ 2 ∷ 16 ∷ 2 ∷ []) ≡ Some (66 ∷ 2 ∷ 16 ∷ 2 ∷ [])
+unfolding with_text
+the_last_run_alone_counts = refl
+
+records_of_other_fields_do_not_end_a_run : rewritten 1 (66 ∷ 2 ∷ 16 ∷ 1 ∷ 8 ∷ 5 ∷ 66 ∷ 3 ∷ 10 ∷ 1 ∷ 97 ∷ []) ≡ Some (66 ∷ 5 ∷ 10 ∷ 1 ∷ 97 ∷ 16 ∷ 1 ∷ 8 ∷ 5 ∷ [])
+unfolding with_text
+records_of_other_fields_do_not_end_a_run = refl
+
+payloads_are_read_as_one : rewritten 1 (50 ∷ 2 ∷ 8 ∷ 1 ∷ 50 ∷ 2 ∷ 16 ∷ 5 ∷ []) ≡ Some (50 ∷ 4 ∷ 16 ∷ 5 ∷ 8 ∷ 1 ∷ [])
+unfolding with_text
+payloads_are_read_as_one = refl
+
+an_empty_packed_list : rewritten 1 (34 ∷ 0 ∷ []) ≡ Some []
+unfolding with_text
+an_empty_packed_list = refl
+
+four_bytes_in_a_list_of_varints : rewritten 1 (37 ∷ 1 ∷ 0 ∷ 0 ∷ 0 ∷ []) ≡ Some (37 ∷ 1 ∷ 0 ∷ 0 ∷ 0 ∷ [])
+unfolding with_text
+four_bytes_in_a_list_of_varints = refl
+
+the_low_32_bits : rewritten 1 (34 ∷ 6 ∷ 255 ∷ 255 ∷ 255 ∷ 255 ∷ 31 ∷ 1 ∷ []) ≡ Some (34 ∷ 11 ∷ 255 ∷ 255 ∷ 255 ∷ 255 ∷ 255 ∷ 255 ∷ 255 ∷ 255 ∷ 255 ∷ 1 ∷ 1 ∷ [])
+unfolding with_text
+the_low_32_bits = refl
+
+two_empty_children : rewritten 1 (26 ∷ 0 ∷ 26 ∷ 0 ∷ []) ≡ Some (26 ∷ 0 ∷ 26 ∷ 0 ∷ [])
+unfolding with_text
+two_empty_children = refl
+
+a_group_fits_no_field : rewritten 1 (43 ∷ 44 ∷ []) ≡ Some (43 ∷ 44 ∷ [])
+unfolding with_text
+a_group_fits_no_field = refl
+
+a_group_is_read_without_a_type : rewritten 1 (43 ∷ 10 ∷ 1 ∷ 255 ∷ 44 ∷ []) ≡ Some (43 ∷ 10 ∷ 1 ∷ 255 ∷ 44 ∷ [])
+unfolding with_text
+a_group_is_read_without_a_type = refl
+
+nor_are_messages_in_a_group : rewritten 1 (51 ∷ 50 ∷ 3 ∷ 10 ∷ 1 ∷ 255 ∷ 52 ∷ []) ≡ Some (51 ∷ 50 ∷ 3 ∷ 10 ∷ 1 ∷ 255 ∷ 52 ∷ [])
+unfolding with_text
+nor_are_messages_in_a_group = refl
+
+ended_by_another_number : fault_of builtin 1 0 (27 ∷ 20 ∷ []) ≡ at GroupEnd 1
+unfolding with_text
+ended_by_another_number = refl
+
+text_of_a_nested_message : fault_of builtin 1 0 (50 ∷ 3 ∷ 10 ∷ 1 ∷ 255 ∷ []) ≡ at NotUtf8 4
+unfolding with_text
+text_of_a_nested_message = refl
+
+a_group_is_cut_where_its_message_ends : fault_of builtin 1 0 (50 ∷ 1 ∷ 19 ∷ 0 ∷ []) ≡ at Cut 3
+unfolding with_text
+a_group_is_cut_where_its_message_ends = refl
+
+another_end_in_a_nested_message : fault_of builtin 1 0 (50 ∷ 2 ∷ 19 ∷ 28 ∷ []) ≡ at GroupEnd 3
+unfolding with_text
+another_end_in_a_nested_message = refl
+
+a_length_that_goes_on : fault_of builtin 1 0 (50 ∷ 128 ∷ 128 ∷ 128 ∷ 128 ∷ 128 ∷ []) ≡ at LongVarint 1
+unfolding with_text
+a_length_that_goes_on = refl
+
+a_length_that_is_cut : fault_of builtin 1 0 (50 ∷ 128 ∷ 128 ∷ 128 ∷ 128 ∷ []) ≡ at Cut 1
+unfolding with_text
+a_length_that_is_cut = refl
+
+ten_bytes_that_go_on : fault_of builtin 0 0 (8 ∷ 128 ∷ 128 ∷ 128 ∷ 128 ∷ 128 ∷ 128 ∷ 128 ∷ 128 ∷ 128 ∷ 128 ∷ []) ≡ at LongVarint 1
+unfolding with_text
+ten_bytes_that_go_on = refl
+
+nine_bytes_that_go_on : fault_of builtin 0 0 (8 ∷ 128 ∷ 128 ∷ 128 ∷ 128 ∷ 128 ∷ 128 ∷ 128 ∷ 128 ∷ 128 ∷ []) ≡ at Cut 1
+unfolding with_text
+nine_bytes_that_go_on = refl
+
+a_group_of_the_fields_number : rewritten 0 (11 ∷ 8 ∷ 1 ∷ 12 ∷ 8 ∷ 7 ∷ []) ≡ Some (8 ∷ 7 ∷ 11 ∷ 8 ∷ 1 ∷ 12 ∷ [])
+unfolding with_text
+a_group_of_the_fields_number = refl
+
+the_end_of_group_0 : fault_of builtin 0 0 (4 ∷ []) ≡ at BadTag 0
+unfolding with_text
+the_end_of_group_0 = refl
+
+a_single_number_is_not_packed : rewritten 0 (10 ∷ 1 ∷ 5 ∷ []) ≡ Some (10 ∷ 1 ∷ 5 ∷ [])
+unfolding with_text
+a_single_number_is_not_packed = refl
+
+a_hundred_groups : rewritten 0 (11 ∷ 11 ∷ 11 ∷ 11 ∷ 11 ∷ 11 ∷ 11 ∷ 11 ∷ 11 ∷ 11 ∷ 11 ∷ 11 ∷ 11 ∷ 11 ∷ 11 ∷ 11 ∷ 11 ∷ 11 ∷ 11 ∷ 11 ∷ 11 ∷ 11 ∷ 11 ∷ 11 ∷ 11 ∷ 11 ∷ 11 ∷ 11 ∷ 11 ∷ 11 ∷ 11 ∷ 11 ∷ 11 ∷ 11 ∷ 11 ∷ 11 ∷ 11 ∷ 11 ∷ 11 ∷ 11 ∷ 11 ∷ 11 ∷ 11 ∷ 11 ∷ 11 ∷ 11 ∷ 11 ∷ 11 ∷ 11 ∷ 11 ∷ 11 ∷ 11 ∷ 11 ∷ 11 ∷ 11 ∷ 11 ∷ 11 ∷ 11 ∷ 11 ∷ 11 ∷ 11 ∷ 11 ∷ 11 ∷ 11 ∷ 11 ∷ 11 ∷ 11 ∷ 11 ∷ 11 ∷ 11 ∷ 11 ∷ 11 ∷ 11 ∷ 11 ∷ 11 ∷ 11 ∷ 11 ∷ 11 ∷ 11 ∷ 11 ∷ 11 ∷ 11 ∷ 11 ∷ 11 ∷ 11 ∷ 11 ∷ 11 ∷ 11 ∷ 11 ∷ 11 ∷ 11 ∷ 11 ∷ 11 ∷ 11 ∷ 11 ∷ 11 ∷ 11 ∷ 11 ∷ 11 ∷ 11 ∷ 12 ∷ 12 ∷ 12 ∷ 12 ∷ 12 ∷ 12 ∷ 12 ∷ 12 ∷ 12 ∷ 12 ∷ 12 ∷ 12 ∷ 12 ∷ 12 ∷ 12 ∷ 12 ∷ 12 ∷ 12 ∷ 12 ∷ 12 ∷ 12 ∷ 12 ∷ 12 ∷ 12 ∷ 12 ∷ 12 ∷ 12 ∷ 12 ∷ 12 ∷ 12 ∷ 12 ∷ 12 ∷ 12 ∷ 12 ∷ 12 ∷ 12 ∷ 12 ∷ 12 ∷ 12 ∷ 12 ∷ 12 ∷ 12 ∷ 12 ∷ 12 ∷ 12 ∷ 12 ∷ 12 ∷ 12 ∷ 12 ∷ 12 ∷ 12 ∷ 12 ∷ 12 ∷ 12 ∷ 12 ∷ 12 ∷ 12 ∷ 12 ∷ 12 ∷ 12 ∷ 12 ∷ 12 ∷ 12 ∷ 12 ∷ 12 ∷ 12 ∷ 12 ∷ 12 ∷ 12 ∷ 12 ∷ 12 ∷ 12 ∷ 12 ∷ 12 ∷ 12 ∷ 12 ∷ 12 ∷ 12 ∷ 12 ∷ 12 ∷ 12 ∷ 12 ∷ 12 ∷ 12 ∷ 12 ∷ 12 ∷ 12 ∷ 12 ∷ 12 ∷ 12 ∷ 12 ∷ 12 ∷ 12 ∷ 12 ∷ 12 ∷ 12 ∷ 12 ∷ 12 ∷ 12 ∷ 12 ∷ []) ≡ Some (11 ∷ 11 ∷ 11 ∷ 11 ∷ 11 ∷ 11 ∷ 11 ∷ 11 ∷ 11 ∷ 11 ∷ 11 ∷ 11 ∷ 11 ∷ 11 ∷ 11 ∷ 11 ∷ 11 ∷ 11 ∷ 11 ∷ 11 ∷ 11 ∷ 11 ∷ 11 ∷ 11 ∷ 11 ∷ 11 ∷ 11 ∷ 11 ∷ 11 ∷ 11 ∷ 11 ∷ 11 ∷ 11 ∷ 11 ∷ 11 ∷ 11 ∷ 11 ∷ 11 ∷ 11 ∷ 11 ∷ 11 ∷ 11 ∷ 11 ∷ 11 ∷ 11 ∷ 11 ∷ 11 ∷ 11 ∷ 11 ∷ 11 ∷ 11 ∷ 11 ∷ 11 ∷ 11 ∷ 11 ∷ 11 ∷ 11 ∷ 11 ∷ 11 ∷ 11 ∷ 11 ∷ 11 ∷ 11 ∷ 11 ∷ 11 ∷ 11 ∷ 11 ∷ 11 ∷ 11 ∷ 11 ∷ 11 ∷ 11 ∷ 11 ∷ 11 ∷ 11 ∷ 11 ∷ 11 ∷ 11 ∷ 11 ∷ 11 ∷ 11 ∷ 11 ∷ 11 ∷ 11 ∷ 11 ∷ 11 ∷ 11 ∷ 11 ∷ 11 ∷ 11 ∷ 11 ∷ 11 ∷ 11 ∷ 11 ∷ 11 ∷ 11 ∷ 11 ∷ 11 ∷ 11 ∷ 11 ∷ 12 ∷ 12 ∷ 12 ∷ 12 ∷ 12 ∷ 12 ∷ 12 ∷ 12 ∷ 12 ∷ 12 ∷ 12 ∷ 12 ∷ 12 ∷ 12 ∷ 12 ∷ 12 ∷ 12 ∷ 12 ∷ 12 ∷ 12 ∷ 12 ∷ 12 ∷ 12 ∷ 12 ∷ 12 ∷ 12 ∷ 12 ∷ 12 ∷ 12 ∷ 12 ∷ 12 ∷ 12 ∷ 12 ∷ 12 ∷ 12 ∷ 12 ∷ 12 ∷ 12 ∷ 12 ∷ 12 ∷ 12 ∷ 12 ∷ 12 ∷ 12 ∷ 12 ∷ 12 ∷ 12 ∷ 12 ∷ 12 ∷ 12 ∷ 12 ∷ 12 ∷ 12 ∷ 12 ∷ 12 ∷ 12 ∷ 12 ∷ 12 ∷ 12 ∷ 12 ∷ 12 ∷ 12 ∷ 12 ∷ 12 ∷ 12 ∷ 12 ∷ 12 ∷ 12 ∷ 12 ∷ 12 ∷ 12 ∷ 12 ∷ 12 ∷ 12 ∷ 12 ∷ 12 ∷ 12 ∷ 12 ∷ 12 ∷ 12 ∷ 12 ∷ 12 ∷ 12 ∷ 12 ∷ 12 ∷ 12 ∷ 12 ∷ 12 ∷ 12 ∷ 12 ∷ 12 ∷ 12 ∷ 12 ∷ 12 ∷ 12 ∷ 12 ∷ 12 ∷ 12 ∷ 12 ∷ 12 ∷ [])
+unfolding with_text
+a_hundred_groups = refl
+
+a_group_more : fault_of builtin 0 0 (11 ∷ 11 ∷ 11 ∷ 11 ∷ 11 ∷ 11 ∷ 11 ∷ 11 ∷ 11 ∷ 11 ∷ 11 ∷ 11 ∷ 11 ∷ 11 ∷ 11 ∷ 11 ∷ 11 ∷ 11 ∷ 11 ∷ 11 ∷ 11 ∷ 11 ∷ 11 ∷ 11 ∷ 11 ∷ 11 ∷ 11 ∷ 11 ∷ 11 ∷ 11 ∷ 11 ∷ 11 ∷ 11 ∷ 11 ∷ 11 ∷ 11 ∷ 11 ∷ 11 ∷ 11 ∷ 11 ∷ 11 ∷ 11 ∷ 11 ∷ 11 ∷ 11 ∷ 11 ∷ 11 ∷ 11 ∷ 11 ∷ 11 ∷ 11 ∷ 11 ∷ 11 ∷ 11 ∷ 11 ∷ 11 ∷ 11 ∷ 11 ∷ 11 ∷ 11 ∷ 11 ∷ 11 ∷ 11 ∷ 11 ∷ 11 ∷ 11 ∷ 11 ∷ 11 ∷ 11 ∷ 11 ∷ 11 ∷ 11 ∷ 11 ∷ 11 ∷ 11 ∷ 11 ∷ 11 ∷ 11 ∷ 11 ∷ 11 ∷ 11 ∷ 11 ∷ 11 ∷ 11 ∷ 11 ∷ 11 ∷ 11 ∷ 11 ∷ 11 ∷ 11 ∷ 11 ∷ 11 ∷ 11 ∷ 11 ∷ 11 ∷ 11 ∷ 11 ∷ 11 ∷ 11 ∷ 11 ∷ 11 ∷ 12 ∷ 12 ∷ 12 ∷ 12 ∷ 12 ∷ 12 ∷ 12 ∷ 12 ∷ 12 ∷ 12 ∷ 12 ∷ 12 ∷ 12 ∷ 12 ∷ 12 ∷ 12 ∷ 12 ∷ 12 ∷ 12 ∷ 12 ∷ 12 ∷ 12 ∷ 12 ∷ 12 ∷ 12 ∷ 12 ∷ 12 ∷ 12 ∷ 12 ∷ 12 ∷ 12 ∷ 12 ∷ 12 ∷ 12 ∷ 12 ∷ 12 ∷ 12 ∷ 12 ∷ 12 ∷ 12 ∷ 12 ∷ 12 ∷ 12 ∷ 12 ∷ 12 ∷ 12 ∷ 12 ∷ 12 ∷ 12 ∷ 12 ∷ 12 ∷ 12 ∷ 12 ∷ 12 ∷ 12 ∷ 12 ∷ 12 ∷ 12 ∷ 12 ∷ 12 ∷ 12 ∷ 12 ∷ 12 ∷ 12 ∷ 12 ∷ 12 ∷ 12 ∷ 12 ∷ 12 ∷ 12 ∷ 12 ∷ 12 ∷ 12 ∷ 12 ∷ 12 ∷ 12 ∷ 12 ∷ 12 ∷ 12 ∷ 12 ∷ 12 ∷ 12 ∷ 12 ∷ 12 ∷ 12 ∷ 12 ∷ 12 ∷ 12 ∷ 12 ∷ 12 ∷ 12 ∷ 12 ∷ 12 ∷ 12 ∷ 12 ∷ 12 ∷ 12 ∷ 12 ∷ 12 ∷ 12 ∷ 12 ∷ []) ≡ at TooDeep 100
+unfolding with_text
+a_group_more = refl
+
+bits_past_the_64th : rewritten 1 (16 ∷ 129 ∷ 128 ∷ 128 ∷ 128 ∷ 128 ∷ 128 ∷ 128 ∷ 128 ∷ 128 ∷ 2 ∷ []) ≡ Some (16 ∷ 1 ∷ [])
+unfolding with_text
+bits_past_the_64th = refl
+
+the_first_fault_stands_in_the_first_record : fault_of builtin 1 0 (50 ∷ 2 ∷ 10 ∷ 5 ∷ 6 ∷ []) ≡ at Cut 4
+unfolding with_text
+the_first_fault_stands_in_the_first_record = refl
+
+-- a message at depth 100 is the last
+a_group_in_the_deepest_message : fault_of builtin 1 99 (50 ∷ 2 ∷ 19 ∷ 20 ∷ []) ≡ at TooDeep 2
+unfolding with_text
+a_group_in_the_deepest_message = refl
+
+a_message_too_deep : fault_of builtin 1 100 (50 ∷ 0 ∷ []) ≡ at TooDeep 0
+unfolding with_text
+a_message_too_deep = refl
+
+the_form_stands_before_the_depth : fault_of builtin 1 100 (50 ∷ 5 ∷ []) ≡ at Cut 2
+unfolding with_text
+the_form_stands_before_the_depth = refl
+
+-- Merging, units and frames
+
+another_member_replaces : merged 1 (58 ∷ 1 ∷ 97 ∷ []) (66 ∷ 0 ∷ []) ≡ Some (66 ∷ 0 ∷ [])
+unfolding with_text
+another_member_replaces = refl
+
+the_same_message_member_is_merged : merged 1 (66 ∷ 2 ∷ 16 ∷ 1 ∷ []) (66 ∷ 3 ∷ 10 ∷ 1 ∷ 97 ∷ []) ≡ Some (66 ∷ 5 ∷ 10 ∷ 1 ∷ 97 ∷ 16 ∷ 1 ∷ [])
+unfolding with_text
+the_same_message_member_is_merged = refl
+
+the_same_text_member_is_replaced : merged 1 (58 ∷ 1 ∷ 97 ∷ []) (58 ∷ 1 ∷ 98 ∷ []) ≡ Some (58 ∷ 1 ∷ 98 ∷ [])
+unfolding with_text
+the_same_text_member_is_replaced = refl
+
+nothing_replaces_nothing : merged 1 (10 ∷ 1 ∷ 97 ∷ 16 ∷ 5 ∷ []) (34 ∷ 1 ∷ 7 ∷ []) ≡ Some (10 ∷ 1 ∷ 97 ∷ 16 ∷ 5 ∷ 34 ∷ 1 ∷ 7 ∷ [])
+unfolding with_text
+nothing_replaces_nothing = refl
+
+messages_are_merged : merged 1 (50 ∷ 2 ∷ 16 ∷ 1 ∷ []) (50 ∷ 3 ∷ 10 ∷ 1 ∷ 97 ∷ []) ≡ Some (50 ∷ 5 ∷ 10 ∷ 1 ∷ 97 ∷ 16 ∷ 1 ∷ [])
+unfolding with_text
+messages_are_merged = refl
+
+lists_and_unknown_bytes_follow_one_another : merged 1 (26 ∷ 0 ∷ 13 ∷ 1 ∷ 2 ∷ 3 ∷ 4 ∷ []) (26 ∷ 2 ∷ 16 ∷ 1 ∷ 43 ∷ 44 ∷ []) ≡ Some (26 ∷ 0 ∷ 26 ∷ 2 ∷ 16 ∷ 1 ∷ 13 ∷ 1 ∷ 2 ∷ 3 ∷ 4 ∷ 43 ∷ 44 ∷ [])
+unfolding with_text
+lists_and_unknown_bytes_follow_one_another = refl
+
+-- 1 for the message, 2 for its unknown bytes, 2 for the text, 2 for the numbers, 1 for the message in it
+units : option_map (λ t. units_of t) (tree_of builtin 1 (10 ∷ 1 ∷ 97 ∷ 34 ∷ 2 ∷ 1 ∷ 2 ∷ 50 ∷ 0 ∷ 43 ∷ 44 ∷ [])) ≡ Some 8
+unfolding with_text
+units = refl
+
+-- groups that are unknown do not count
+no_depth : option_map (λ t. depth_of t) (tree_of builtin 1 (51 ∷ 51 ∷ 52 ∷ 52 ∷ [])) ≡ Some 0
+unfolding with_text
+no_depth = refl

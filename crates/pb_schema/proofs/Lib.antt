@@ -5,6 +5,11 @@ pub mod FrameLaws
 pub mod RecordLaws
 pub mod TextLaws
 pub mod FormLaws
+pub mod WalkSteps
+pub mod RecordsFound
+pub mod RecordsFront
+pub mod MergeLaws
+pub mod FaultLaws
 mod Rows
 mod Examples
 mod TreeExamples

@@ -1,12 +1,16 @@
 //! Laws of the definitions in `specs/`, each the contract of a function that does nothing.
-ghost use Rattle.std.specs.Prelude.{◌≡◌, ◌≢◌, ◌↔◌, ℕ, ◌+◌, ◌-◌, ◌*◌, ◌%◌, ◌^◌, ◌<◌, ◌≤◌, List, [], ◌++◌, length, take, Some, Ok, Err, All, flat_map, map, sum, slice_index};
+ghost use Rattle.std.specs.Prelude.{◌≡◌, ◌≢◌, ◌↔◌, ℕ, ◌+◌, ◌-◌, ◌*◌, ◌%◌, ◌^◌, ◌<◌, ◌≤◌, List, [], ◌++◌, length, take, IsSome, None, Some, Ok, Err, All, flat_map, map, sum, slice_index};
 ghost use Rattle.std.specs.List.{range_with_len};
+ghost use Rattle.pb_schema.specs.declared.schema.Schema.{Schema};
 ghost use Rattle.pb_schema.specs.Varint.{Varint, varint_at, length_bytes, value_bytes, varint_of};
 ghost use Rattle.pb_schema.specs.Frames.{Frames, frames_of};
-ghost use Rattle.pb_schema.specs.Tick.Records.{VarintRecords, values_of};
-ghost use Rattle.pb_schema.specs.Tick.Tree.{Tree, Fitted};
-ghost use Rattle.pb_schema.specs.Tick.Decode.{tree_of};
-ghost use Rattle.pb_schema.specs.Tick.Text.{text_of};
+ghost use Rattle.pb_schema.specs.Records.{Record, Records, RecordsWithin, records_of, records_within};
+ghost use Rattle.pb_schema.specs.Tree.{Tree};
+ghost use Rattle.pb_schema.specs.Fault.{fault_of, most_levels};
+ghost use Rattle.pb_schema.specs.TreeOf.{tree_of};
+ghost use Rattle.pb_schema.specs.Fitted.{Fitted};
+ghost use Rattle.pb_schema.specs.Empty.{empty};
+ghost use Rattle.pb_schema.specs.Merge.{merge_of};
 ghost use Rattle.pb_schema.specs.Text.{framed};
 
 /// A varint has one to `most` bytes, each but the last at least 128 and the last below 128, and its value is the sum
@@ -30,16 +34,24 @@ pub fn one_framing()
     ensures cut { (s : List ℕ) (n : ℕ) → (frames_of s ≡ Err n) ↔ ((front : List ℕ) × (rest : List ℕ) × (payloads : List (List ℕ)) × (s ≡ front ++ rest) × Frames front payloads × (length payloads ≡ n) × (rest ≢ []) × ((prefix payload tail : List ℕ) → rest ≡ prefix ++ (payload ++ tail) → Varint prefix length_bytes (length payload) → length payload < 2 ^ 31 → ⊥)) }
 {}
 
-/// The same bytes are the records of one list of values at most, and `values_of` finds it exactly where there is
-/// one.
-pub fn one_list_of_values()
-    ensures only { (number : ℕ) (s vs ws : List ℕ) → VarintRecords number s vs → VarintRecords number s ws → vs ≡ ws }
-    ensures exact { (number : ℕ) (s vs : List ℕ) → (values_of number s ≡ Some vs) ↔ VarintRecords number s vs }
+/// The same bytes are cut into one list of records at most, however deep groups are nested in them, and `records_of`
+/// finds it exactly where there is one; so does `records_within` where groups are nested at most so many levels.
+pub fn one_list_of_records()
+    ensures only { (s : List ℕ) (rs qs : List Record) → Records s rs → Records s qs → rs ≡ qs }
+    ensures exact { (s : List ℕ) (rs : List Record) → (records_of s ≡ Some rs) ↔ Records s rs }
+    ensures within { (levels : ℕ) (s : List ℕ) (rs : List Record) → (records_within levels s ≡ Some rs) ↔ RecordsWithin levels s rs }
 {}
 
-/// The number in a tree that was read is below 2^64, and isn't the default.
-pub fn trees_are_fitted()
-    ensures { (s : List ℕ) (t : Tree) → tree_of s ≡ Some t → Fitted t }
+/// A payload has a tree exactly where it has no fault, and then it is cut into records, from which the tree is gathered.
+pub fn a_tree_where_no_fault()
+    ensures tree { (schema : Schema) (type_no : ℕ) (s : List ℕ) → IsSome (tree_of schema type_no s) ↔ (fault_of schema type_no 0 s ≡ None) }
+    ensures records { (schema : Schema) (type_no : ℕ) (s : List ℕ) → fault_of schema type_no 0 s ≡ None → (rs : List Record) × RecordsWithin most_levels s rs }
+{}
+
+/// Merging the empty message of a type changes no message of that type, on either side.
+pub fn empty_merges_to_the_same()
+    ensures into { (schema : Schema) (type_no : ℕ) (t : Tree) → Fitted schema type_no t → merge_of schema type_no (empty schema type_no) t ≡ t }
+    ensures from { (schema : Schema) (type_no : ℕ) (t : Tree) → Fitted schema type_no t → merge_of schema type_no t (empty schema type_no) ≡ t }
 {}
 
 /// What is written for a number of 64 bits is a varint of it, and no varint of it has fewer bytes.
@@ -48,9 +60,7 @@ pub fn shortest_varint()
     ensures shortest { (s : List ℕ) (v : ℕ) → Varint s value_bytes v → length (varint_of v) ≤ length s }
 {}
 
-/// What is written for a tree is read as that tree, and frames that are written are read as their payloads, where
-/// each is shorter than 2^31 bytes.
-pub fn text_is_read_back()
-    ensures text { (t : Tree) → Fitted t → tree_of (text_of t) ≡ Some t }
-    ensures frames { (payloads : List (List ℕ)) → All (λ payload. length payload < 2 ^ 31) payloads → frames_of (flat_map framed payloads) ≡ Ok payloads }
+/// Frames that are written are read as their payloads, where each is shorter than 2^31 bytes.
+pub fn frames_are_read_back()
+    ensures { (payloads : List (List ℕ)) → All (λ payload. length payload < 2 ^ 31) payloads → frames_of (flat_map framed payloads) ≡ Ok payloads }
 {}

@@ -3,21 +3,26 @@
 //!
 //! It stands at the bottom, beside the code: the contracts of the layers above cite its `specs/`, and its
 //! functions state laws over them. Its contract: varints, frames and records have at most one reading, and the
-//! function that computes it finds it exactly where there is one. What is written is read back.
+//! function that computes it finds it exactly where there is one. A payload has a tree exactly where it has no fault.
 #![tactic(auto)]
 
 mod kind;
 mod laws;
 mod lists;
 mod schema;
+mod tick;
 mod wire_fault;
 
 pub use kind::{Card, FieldType, Kind};
 pub use laws::{
-    one_framing, one_list_of_values, one_varint, shortest_varint, text_is_read_back,
-    trees_are_fitted, varint_by_places,
+    a_tree_where_no_fault, empty_merges_to_the_same, frames_are_read_back, one_framing,
+    one_list_of_records, one_varint, shortest_varint, varint_by_places,
 };
 pub use lists::{ByteList, FieldList, Name};
 pub use no_memory::NoMemory;
 pub use schema::{MessageType, Schema, TypeList};
+pub use tick::{one_list_of_values, text_is_read_back, trees_are_fitted};
 pub use wire_fault::{WireFault, WireKind};
+
+#[cfg(test)]
+mod tests;

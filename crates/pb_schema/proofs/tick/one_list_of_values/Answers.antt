@@ -1,6 +1,6 @@
 -- Each clause is a law of proofs/RecordLaws.
 use Rattle.pb_schema.proofs.RecordLaws.{one_list_of_values, values_found, values_of_records}
-use Rattle.pb_schema.proofs.laws.one_list_of_values.Goals as goal
+use Rattle.pb_schema.proofs.tick.one_list_of_values.Goals as goal
 
 pub returns-clause-only : goal.returns-clause-only
 returns-clause-only c = one_list_of_values

@@ -1,0 +1,4 @@
+pub mod Reading
+pub mod Groups
+pub mod Walking
+pub mod Framing

@@ -1,0 +1,4 @@
+pub mod Placed
+pub mod PlacedRecord
+pub mod FramePlaces
+pub mod FrameAnswers

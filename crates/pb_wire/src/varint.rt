@@ -1,0 +1,133 @@
+// Varints: a number in groups of seven bits, the least group first.
+ghost use Rattle.std.specs.Prelude.{◌≡◌, ◌+◌, ◌*◌, ◌^◌, ◌<◌, ◌≤◌, ℕ, length, take, drop, IfOk, IfSome};
+ghost use Rattle.pb_schema.specs.Varint.{value_bytes, varint_at, varint_of};
+ghost use Rattle.pb_schema.specs.Form.{read_varint as varint_read};
+ghost use Rattle.pb_wire.specs.Placed.{moved, found_from, kind_of};
+
+use pb_schema::{WireFault, WireKind};
+
+/// The most bytes of a value.
+pub(crate) const VALUE_BYTES: usize = 10;
+
+/// The value of 64 bits at `start`, and the place behind it.
+pub fn read_varint(bytes: &[u8], start: u32) -> Result<(u64, u32), WireFault>
+    requires start { start ≤ length bytes.now }
+    requires short { length bytes.now < 2 ^ 31 }
+    ensures exact { result ≡ moved start (varint_read value_bytes start (drop start bytes.now)) }
+    ensures bound { IfOk result (λ found. (start < found.1) × (found.1 ≤ length bytes.now)) }
+{
+    read_within(bytes, start, VALUE_BYTES)
+}
+
+// The varint of at most `most` bytes at `start`, and the place behind it; or what is wrong with it.
+#[inline]
+pub(crate) fn read_within(bytes: &[u8], start: u32, most: usize) -> Result<(u64, u32), WireFault>
+    requires start { start ≤ length bytes.now }
+    requires short { length bytes.now < 2 ^ 31 }
+    requires some { 2 ≤ most }
+    requires most { most ≤ 10 }
+    ensures exact { result ≡ moved start (varint_read most start (drop start bytes.now)) }
+    ensures bound { IfOk result (λ found. (start < found.1) × (found.1 ≤ length bytes.now)) }
+{
+    let at = start as usize;
+    match find_varint(bytes, at, most) {
+        Some((value, end)) => Ok((value, end as u32)),
+        None => Err(WireFault {
+            kind: fault_of(bytes.len() - at, most),
+            byte: start,
+        }),
+    }
+}
+
+// The varint of at most `most` bytes at `start`, and the place behind it; none where no such varint ends.
+#[inline]
+pub(crate) fn find_varint(bytes: &[u8], start: usize, most: usize) -> Option<(u64, usize)>
+    requires start { start ≤ length bytes.now }
+    requires some { 2 ≤ most }
+    requires most { most ≤ 10 }
+    ensures found { result ≡ found_from start (varint_at most (drop start bytes.now)) }
+    ensures bound { IfSome result (λ found. (start < found.1) × (found.1 ≤ length bytes.now)) }
+{
+    // Most tags, lengths and values have one byte, and most others two.
+    if start < bytes.len() && bytes[start] < 128 {
+        return Some((u64::from(bytes[start]), start + 1));
+    }
+    if bytes.len() - start >= 2 && bytes[start + 1] < 128 {
+        let value = u64::from(bytes[start] % 128) + u64::from(bytes[start + 1]) * 128;
+        return Some((value, start + 2));
+    }
+    find_long(bytes, start, most)
+}
+
+// The same of any length.
+fn find_long(bytes: &[u8], start: usize, most: usize) -> Option<(u64, usize)>
+    requires start { start ≤ length bytes.now }
+    requires some { 1 ≤ most }
+    requires most { most ≤ 10 }
+    ensures found { result ≡ found_from start (varint_at most (drop start bytes.now)) }
+    ensures bound { IfSome result (λ found. (start < found.1) × (found.1 ≤ length bytes.now)) }
+{
+    let limit = most.min(bytes.len() - start);
+    let mut value = 0u64;
+    for i in 0..limit {
+        let byte = bytes[start + i];
+        value = value.wrapping_add(u64::from(byte % 128) << (7 * i));
+        if byte < 128 {
+            return Some((value, start + i + 1));
+        }
+    }
+    None
+}
+
+// What is wrong where `there` bytes go on, of `most` that may.
+fn fault_of(there: usize, most: usize) -> WireKind
+    ensures { result ≡ kind_of there most }
+{
+    if there < most {
+        WireKind::Cut
+    } else {
+        WireKind::LongVarint
+    }
+}
+
+/// How many bytes the shortest varint of a value has.
+pub fn varint_len(value: u64) -> u32
+    ensures { result ≡ length (varint_of value) }
+{
+    if value < 128 {
+        return 1;
+    }
+    last_group(value) as u32 + 1
+}
+
+/// Writes the shortest varint of a value to the front of the room, and answers how many bytes it has.
+#[inline]
+pub fn write_varint(value: u64, room: &mut [u8; 10]) -> usize
+    ensures spelled { take result room.new ≡ varint_of value }
+    ensures count { result ≡ length (varint_of value) }
+    ensures bound { (0 < result) × (result ≤ 10) }
+{
+    if value < 128 {
+        room[0] = value as u8;
+        return 1;
+    }
+    let last = last_group(value);
+    let mut rest = value;
+    for group in 0..last {
+        room[group] = (rest % 128) as u8 + 128;
+        rest /= 128;
+    }
+    room[last] = rest as u8;
+    last + 1
+}
+
+// How many whole groups of seven bits lie below the highest bit that is set.
+#[inline]
+fn last_group(value: u64) -> usize
+    requires { 0 < value }
+    ensures below { 2 ^ (7 * result) ≤ value }
+    ensures above { value < 2 ^ (7 * (result + 1)) }
+    ensures bound { result ≤ 9 }
+{
+    (63 - value.leading_zeros() as usize) / 7
+}
