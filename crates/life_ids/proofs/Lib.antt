@@ -5,3 +5,4 @@ pub mod Rests
 pub mod Own
 pub mod Apart
 pub mod PlainWords
+mod Rows

@@ -58,9 +58,9 @@ ids_push starts start =
     flat_map-append batch starts (start ∷ []) ∙ ap (λ (xs : List ℕ). ids_of starts ++ xs) (append-nil (batch start) ∙ batch_parts start)
 
 -- a batch is taken, and its first id drawn
-pub from_new_batch : (v w : View) (from to quota found : ℕ) → IsRest v from to quota → to - from ≡ 0 → 0 < quota → Took v found w
+pub from_new_batch : (v w : View) (from to quota found : ℕ) (rest left : ℕ) → IsRest v from to quota → to - from ≡ rest → quota ≡ left → rest ≡ 0 → 0 < left → Took v found w
     → IsRest w (found + 1) (found + 256) (quota - 1) × (ids_but ((found + 256) - (found + 1)) w.taken ≡ ids_but (to - from) v.taken ++ found ∷ [])
-from_new_batch v w from to quota found r used_up some_left took =
+from_new_batch v w from to quota found rest left r rest_is quota_left used_up some_left took =
     let ids : List ℕ = ids_of v.taken in
     let taken : w.taken ≡ v.taken ++ found ∷ [] = ap (λ (u : View). u.taken) took.view in
     let all : length ids - (to - from) ≡ length ids = omega arith in

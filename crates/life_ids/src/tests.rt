@@ -1,7 +1,7 @@
 // Worked values: the first ids, what follows where they are spent, and eight threads at once.
-ghost use Rattle.std.specs.Prelude.{◌≡◌, ◌≢◌, ◌≤◌, ◌<◌, ◌^◌, ◌*◌, All, IfSome, IfOk};
+ghost use Rattle.std.specs.Prelude.{◌≡◌, ◌≢◌, ◌≤◌, ◌<◌, ◌^◌, ◌*◌, All, IfSome, IfOk, OnOk, OnErr};
 ghost use Rattle.std.specs.Thread.{IsSync};
-ghost use Rattle.life_ids.specs.Seats.{SeatState, ids_left};
+ghost use Rattle.life_ids.specs.Seats.{greatest_drawn};
 
 use crate::{IdSeat, IdSource, IdsSpent, LifeIds, NoMemory, ThreadCache, ids_differ};
 use std::alloc::{AllocError, Global};
@@ -42,6 +42,28 @@ fn first_two(alloc: Global, quota: u64) -> Result<(u64, u64), NoMemory>
 #[test]
 fn the_first_two_are_1_and_2(rt: HostRuntime) -> Result<(), Fail> {
     assert_eq!(rt; first_two(rt.alloc(), 300)?, (1, 2));
+    Ok(())
+}
+
+// A life is renewed, where every id that is left is greater: so is the new one, and the same holds again.
+fn renew(ids: &mut IdSource, life: &mut u64) -> Result<(), IdsSpent>
+    requires { life.old ≤ greatest_drawn ids.old }
+    ensures ok { OnOk result (life.old < life.new) }
+    ensures err { OnErr result (life.new ≡ life.old) }
+    ensures again { life.new ≤ greatest_drawn ids.new }
+{
+    *life = ids.draw()?;
+    Ok(())
+}
+
+#[test]
+fn a_renewed_life_is_greater(rt: HostRuntime) -> Result<(), Fail> {
+    let mut ids = IdSource::new(rt.alloc(), 1)?;
+    let mut life = 0;
+    for want in 1..257u64 {
+        assert_eq!(rt; (renew(&mut ids, &mut life), life), (Ok(()), want));
+    }
+    assert_eq!(rt; (renew(&mut ids, &mut life), life), (Err(IdsSpent), 256));
     Ok(())
 }
 

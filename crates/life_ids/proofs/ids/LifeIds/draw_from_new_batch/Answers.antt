@@ -16,18 +16,18 @@ fetch_add-start-requires c =
 
 pub invariant_of-seat : goal.invariant_of-seat
 invariant_of-seat c =
-    let used_up = ap (λ (s : SeatState). s.rest) c.seat.view_is ∙ c.requires.used_up in
-    let some_left = subst (λ (n : ℕ). 0 < n) (sym (ap (λ (s : SeatState). s.quota) c.seat.view_is)) c.requires.quota in
-    ((from_new_batch _ _ _ _ _ _ c.seat.invariant.0 used_up some_left c.fetch_add-start.ensures.2.0).0, c.fetch_add-start.ensures.2.1 ∙ c.seat.invariant.1)
+    let new = from_new_batch _ _ _ _ _ _ _ _ c.seat.invariant.0 (ap (λ (s : SeatState). s.rest) c.seat.view_is) (ap (λ (s : SeatState). s.quota) c.seat.view_is)
+    c.requires.used_up c.requires.quota c.fetch_add-start.ensures.2.0 in
+    (new.0, c.fetch_add-start.ensures.2.1 ∙ c.seat.invariant.1)
 
 pub returns-clause-drawn : goal.returns-clause-drawn
 returns-clause-drawn c =
-    let used_up = ap (λ (s : SeatState). s.rest) c.seat.view_is ∙ c.requires.used_up in
-    let some_left = subst (λ (n : ℕ). 0 < n) (sym (ap (λ (s : SeatState). s.quota) c.seat.view_is)) c.requires.quota in
-    rw (← c.seat.view_is) ((from_new_batch _ _ _ _ _ _ c.seat.invariant.0 used_up some_left c.fetch_add-start.ensures.2.0).1)
+    let new = from_new_batch _ _ _ _ _ _ _ _ c.seat.invariant.0 (ap (λ (s : SeatState). s.rest) c.seat.view_is) (ap (λ (s : SeatState). s.quota) c.seat.view_is)
+    c.requires.used_up c.requires.quota c.fetch_add-start.ensures.2.0 in
+    rw (← c.seat.view_is) new.1
 
 pub returns-clause-ascending : goal.returns-clause-ascending
 returns-clause-ascending c =
-    let used_up = ap (λ (s : SeatState). s.rest) c.seat.view_is ∙ c.requires.used_up in
-    let some_left = subst (λ (n : ℕ). 0 < n) (sym (ap (λ (s : SeatState). s.quota) c.seat.view_is)) c.requires.quota in
-    (from_new_batch _ _ _ _ _ _ c.seat.invariant.0 used_up some_left c.fetch_add-start.ensures.2.0).0.ascending
+    let new = from_new_batch _ _ _ _ _ _ _ _ c.seat.invariant.0 (ap (λ (s : SeatState). s.rest) c.seat.view_is) (ap (λ (s : SeatState). s.quota) c.seat.view_is)
+    c.requires.used_up c.requires.quota c.fetch_add-start.ensures.2.0 in
+    new.0.ascending

@@ -1,8 +1,5 @@
-use Rattle.std.proofs.Common.{◌-◌, ◌≤◌, ℕ, ap, ◌∙◌, subst, arith}
-use Rattle.life_ids.specs.declared.view.View.{View}
+use Rattle.std.proofs.Common.{◌-◌, ℕ, ap, ◌∙◌, arith}
 use Rattle.life_ids.specs.Seats.{SeatState}
-use Rattle.life_ids.specs.Plays.{joined}
-use Rattle.life_ids.specs.Rule.{times_in}
 use Rattle.life_ids.proofs.Own.{same_table}
 use Rattle.life_ids.proofs.Keeps.{may_join, may_look}
 use Rattle.life_ids.proofs.Apart.{held_apart, drawn_apart}
@@ -26,14 +23,12 @@ load-requires c = (
 
 pub returns-clause-apart : goal.returns-clause-apart
 returns-clause-apart c =
-    let v : View = c.seat.inside.seat.me.0 in
-    let w : View = c.other.inside.seat.me.0 in
-    let once : (id : ℕ) → times_in id (joined v w) ≤ 1 = subst (λ (u : View). (id : ℕ) → times_in id u ≤ 1) (ap (λ m. m.0) c.join_seat.ensures.2) c.load.ensures.2.0.once in
-    rw (← c.seat.view_is, ← c.other.view_is) (drawn_apart v w once (c.seat.inside.batch.end - c.seat.inside.batch.start) (c.other.inside.batch.end - c.other.inside.batch.start))
+    let joined_view = ap (λ m. m.0) c.join_seat.ensures.2 in
+    let rest : ℕ = c.seat.inside.batch.end - c.seat.inside.batch.start in
+    let other_rest : ℕ = c.other.inside.batch.end - c.other.inside.batch.start in
+    rw (← c.seat.view_is, ← c.other.view_is) (drawn_apart c.seat.inside.seat.me.0 c.other.inside.seat.me.0 _ joined_view c.load.ensures.2.0.once rest other_rest)
 
 pub returns-clause-held_apart : goal.returns-clause-held_apart
 returns-clause-held_apart c =
-    let v : View = c.seat.inside.seat.me.0 in
-    let w : View = c.other.inside.seat.me.0 in
-    let once : (id : ℕ) → times_in id (joined v w) ≤ 1 = subst (λ (u : View). (id : ℕ) → times_in id u ≤ 1) (ap (λ m. m.0) c.join_seat.ensures.2) c.load.ensures.2.0.once in
-    rw (← c.seat.view_is, ← c.other.view_is) (held_apart v w once)
+    let joined_view = ap (λ m. m.0) c.join_seat.ensures.2 in
+    rw (← c.seat.view_is, ← c.other.view_is) (held_apart c.seat.inside.seat.me.0 c.other.inside.seat.me.0 _ joined_view c.load.ensures.2.0.once)
