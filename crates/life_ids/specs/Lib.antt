@@ -1,0 +1,7 @@
+pub mod Batches
+pub mod Seats
+pub mod Rule
+pub mod Plays
+pub mod Fields
+pub mod Laws
+pub mod Cache
