@@ -1,5 +1,5 @@
 -- Worked examples over the built-in types, computed by the definitions. Bytes are decimal.
-use Rattle.std.proofs.Common.{◌≡◌, ℕ, zero, suc, List, [], ◌∷◌, ◌++◌, length, None, Some, Ok, Err, refl}
+use Rattle.std.proofs.Common.{◌≡◌, ℕ, zero, suc, List, [], ◌∷◌, None, Some, refl}
 use Rattle.std.specs.Prelude.{Option, option_and_then}
 use Rattle.std.specs.Option.{option_map}
 use Rattle.std.specs.Str.{is_utf8, chars}
@@ -9,7 +9,6 @@ use Rattle.pb_schema.specs.declared.wire_fault.WireKind.{WireKind}
 use Rattle.pb_schema.specs.declared.wire_fault.WireKind.TheVariants.{Cut, LongVarint, BadTag, BadLength, GroupEnd, TooDeep, NotUtf8}
 use Rattle.pb_schema.specs.Builtin.{builtin}
 use Rattle.pb_schema.specs.Fault.{fault_of}
-use Rattle.pb_schema.specs.Records.{records_of, records_within}
 use Rattle.pb_schema.specs.TreeOf.{tree_of}
 use Rattle.pb_schema.specs.Merge.{merge_of}
 use Rattle.pb_schema.specs.Units.{units_of}

@@ -13,3 +13,4 @@ pub mod FaultLaws
 mod Rows
 mod Examples
 mod TreeExamples
+pub mod TickLaws

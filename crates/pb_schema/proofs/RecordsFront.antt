@@ -20,12 +20,12 @@ use Rattle.pb_schema.proofs.RecordsFound.{RecordFound, each_found, tag_front, al
 -- PLAIN RECORDS
 
 -- a payload that stands behind its tag
-record PayloadFront (wire at : ℕ) (t payload behind : List ℕ) : Type 0 where
-  front : ℕ
-  len : ℕ
-  is : read_payload wire at t ≡ Ok (front, len)
-  size : front + len ≡ length behind
-  there : take len (drop front t) ≡ payload
+pub record PayloadFront (wire at : ℕ) (t payload behind : List ℕ) : Type 0 where
+  pub front : ℕ
+  pub len : ℕ
+  pub is : read_payload wire at t ≡ Ok (front, len)
+  pub size : front + len ≡ length behind
+  pub there : take len (drop front t) ≡ payload
 
 alone_front : (wire at : ℕ) (payload behind rest : List ℕ) → read_payload wire at (behind ++ rest) ≡ alone wire at (behind ++ rest) → read_scalar wire at (payload ++ rest) ≡ Ok (length payload) → behind ≡ payload → PayloadFront wire at (behind ++ rest) payload behind
 alone_front wire at payload behind rest as_scalar e same = record {
@@ -39,7 +39,7 @@ alone_front wire at payload behind rest as_scalar e same = record {
 fixed_front : (size at : ℕ) (payload rest : List ℕ) → length payload ≡ size → read_bytes size at (payload ++ rest) ≡ Ok (length payload)
 fixed_front size at payload rest e = read_bytes_of size at (payload ++ rest) (omega (arith, e, length-append payload rest)) ∙ ap Ok (sym e)
 
-payload_front : (AreRecords : List ℕ → Type 0) (number wire at : ℕ) (payload behind rest : List ℕ) → wire ≢ 3 → Spells AreRecords number wire payload behind → PayloadFront wire at (behind ++ rest) payload behind
+pub payload_front : (AreRecords : List ℕ → Type 0) (number wire at : ℕ) (payload behind rest : List ℕ) → wire ≢ 3 → Spells AreRecords number wire payload behind → PayloadFront wire at (behind ++ rest) payload behind
 payload_front AreRecords number zero at payload behind rest no_start p =
     let found = varint_at_front value_bytes payload rest p.0 p.1 in
     alone_front 0 at payload behind rest refl (ap (λ r. r >>= λ value. Ok value.1) (read_varint_some value_bytes at (payload ++ rest) p.0 (length payload) found)) p.2

@@ -3,3 +3,4 @@ pub mod Records
 pub mod Tree
 pub mod Decode
 pub mod Text
+pub mod Whole

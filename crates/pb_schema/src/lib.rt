@@ -21,7 +21,9 @@ pub use laws::{
 pub use lists::{ByteList, FieldList, Name};
 pub use no_memory::NoMemory;
 pub use schema::{MessageType, Schema, TypeList};
-pub use tick::{one_list_of_values, text_is_read_back, trees_are_fitted};
+pub use tick::{
+    one_list_of_values, plain_ticks_mean_the_same, text_is_read_back, trees_are_fitted,
+};
 pub use wire_fault::{WireFault, WireKind};
 
 #[cfg(test)]

@@ -4,6 +4,10 @@ ghost use Rattle.pb_schema.specs.Tick.Records.{VarintRecords, values_of};
 ghost use Rattle.pb_schema.specs.Tick.Tree.{Tree, Fitted};
 ghost use Rattle.pb_schema.specs.Tick.Decode.{tree_of};
 ghost use Rattle.pb_schema.specs.Tick.Text.{text_of};
+ghost use Rattle.pb_schema.specs.Tick.Whole.{whole_tree};
+ghost use Rattle.pb_schema.specs.Builtin.{builtin};
+ghost use Rattle.pb_schema.specs.TreeOf.{tree_of as decoded};
+ghost use Rattle.pb_schema.specs.Text.{text_of as written};
 
 /// The same bytes are the records of one list of values at most, and `values_of` finds it exactly where there is
 /// one.
@@ -20,4 +24,10 @@ pub fn trees_are_fitted()
 /// What is written for a tree is read as that tree.
 pub fn text_is_read_back()
     ensures { (t : Tree) → Fitted t → tree_of (text_of t) ≡ Some t }
+{}
+
+/// By the whole definitions a plain payload has the same tree, and a tick's tree the same text.
+pub fn plain_ticks_mean_the_same()
+    ensures tree { (s : List ℕ) (t : Tree) → tree_of s ≡ Some t → decoded builtin 0 s ≡ Some (whole_tree t) }
+    ensures text { (t : Tree) → written builtin 0 (whole_tree t) ≡ text_of t }
 {}
