@@ -9,7 +9,9 @@ mod sink;
 #[cfg(test)]
 mod tests;
 
+use arena_block::Policy;
 use arena_run::{Fault, run};
+use cleanup_list::SilentWatch;
 use files::RealFiles;
 use serial_arena::SerialArena;
 use sink::WriterSink;
@@ -23,8 +25,10 @@ fn main(rt: HostRuntime) -> ExitCode {
             let mut files = RealFiles::new(&rt);
             let mut out = WriterSink::new(io::writer(&rt));
             // Owner 0, in its first life; its places name region 0.
-            let arena = SerialArena::new(alloc, 0, 1, 0);
-            ExitCode::from(run(alloc, &words, &mut files, &mut out, arena).status)
+            let arena = SerialArena::new(alloc, Policy::profile(), 0, 1, 0);
+            let outcome = run(alloc, &words, &mut files, &mut out, arena);
+            outcome.arena.end(&mut SilentWatch);
+            ExitCode::from(outcome.status)
         }
         Err(fault) => ExitCode::from(fault.status()),
     }

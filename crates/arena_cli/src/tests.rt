@@ -152,7 +152,7 @@ fn a_file_goes_through_the_program(rt: HostRuntime) -> Result<(), Fail> {
             failing_call,
         };
         let mut out = WriterSink::new(&mut writer);
-        let arena = SerialArena::new(alloc, 0, 1, 0);
+        let arena = SerialArena::new(alloc, Policy::profile(), 0, 1, 0);
         let outcome = run(alloc, &words, &mut files, &mut out, arena);
         assert_eq!(rt; outcome.status, status, "{name}, {failing_call}");
         assert_eq!(rt; writer.taken.as_slice(), taken, "{name}, {failing_call}");

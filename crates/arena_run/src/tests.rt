@@ -2,6 +2,7 @@
 ghost use Rattle.std.specs.Prelude.{◌≤◌};
 
 use super::*;
+use arena_block::Policy;
 use arena_mem::{MemoryFiles, MemorySink, NamedBytes};
 use serial_arena::SerialArena;
 use std::alloc::{AllocError, Global};
@@ -41,7 +42,7 @@ fn end_of_run(
     };
     let mut files = MemoryFiles::new(vec![in alloc; file]?, failing_reads.to_vec(alloc)?);
     let mut out = MemorySink::new(alloc, per_call, failing_writes.to_vec(alloc)?);
-    let arena = SerialArena::new(alloc, 0, 0, 0);
+    let arena = SerialArena::new(alloc, Policy::profile(), 0, 0, 0);
     let outcome = run(alloc, &strings, &mut files, &mut out, arena);
     Ok(End {
         status: outcome.status,

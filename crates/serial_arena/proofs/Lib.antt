@@ -1,4 +1,5 @@
-pub mod Numbered
+mod Placing
+mod Entries
 pub mod Names
-pub mod Rows
-pub mod States
+mod Parts
+mod States

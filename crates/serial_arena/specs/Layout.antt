@@ -1,41 +1,82 @@
--- How the blocks of a serial arena lie in one row of bytes, one behind another from its start on.
-use Rattle.std.specs.Prelude.{◌≡◌, ◌+◌, ◌-◌, ◌<◌, ◌^◌, ℕ, List, [], ◌∷◌, ◌++◌, length, map, take, drop, get_or}
-use Rattle.std.specs.List.{range_with_len}
-use Rattle.serial_arena.specs.Serial.{Placement, SerialState, IsLength}
-use Rattle.serial_arena.specs.declared.arena.SerialArena.TheInside.{Inside}
+-- How blocks hold placements.
+use Rattle.std.specs.Prelude.{◌≡◌, ◌+◌, ◌*◌, ◌-◌, ◌<◌, ◌≤◌, ◌^◌, ℕ, Bool, List, [], ◌∷◌, ◌++◌, length, map, get_or, set, sum_by, nat_le, if◌then◌else◌}
+use Rattle.std.specs.List.{sum}
+use Rattle.arena_mem.specs.declared.memory.MemFault.{MemFault}
+use Rattle.arena_mem.specs.declared.memory.MemFault.TheVariants.{NoMemory, BlocksSpent}
+use Rattle.arena_block.specs.declared.policy.Policy.{Policy}
+use Rattle.arena_block.specs.Policy.{IsValid, next_size}
+use Rattle.arena_block.specs.Block.{BlockState, fresh_block, room_of, part_of, with_part, with_bytes}
+use Rattle.serial_arena.specs.declared.span.Span.{Span}
+use Rattle.serial_arena.specs.Laid.{Laid, span_at, end_of, filled_to, size_at, size_before}
+use Rattle.serial_arena.specs.Serial.{Placement}
 
--- where each block starts, and at the end where the last one ends
-abbrev pub bounds : List ℕ → List ℕ → List ℕ
-bounds starts row = starts ++ length row ∷ []
+-- no block at all
+abbrev pub no_block : BlockState
+no_block = record { size = 0; bytes = [] }
 
--- the k-th block between its two bounds
-abbrev pub block_at : List ℕ → List ℕ → ℕ → Placement
-block_at ends row k = record {
-  block = k;
-  offset = 16;
-  len = get_or ends (k + 1) 0 - get_or ends k 0;
-  bytes = take (get_or ends (k + 1) 0 - get_or ends k 0) (drop (get_or ends k 0) row);
+abbrev pub block_at : List BlockState → ℕ → BlockState
+block_at blocks b = get_or blocks b no_block
+
+abbrev pub newest : List BlockState → BlockState
+newest blocks = block_at blocks (length blocks - 1)
+
+abbrev pub sizes_of : List BlockState → List ℕ
+sizes_of blocks = map (λ (b : BlockState). b.size) blocks
+
+-- a placement with its bytes, which are read from its block
+abbrev pub placement_in : List BlockState → Span → Placement
+placement_in blocks x = record {
+  block = x.block;
+  offset = x.offset;
+  len = x.len;
+  bytes = part_of (block_at blocks x.block) x.offset x.len;
 }
 
--- all the blocks, in order
-abbrev pub blocks_in : List ℕ → List ℕ → List Placement
-blocks_in starts row = map (block_at (bounds starts row) row) (range_with_len 0 (length starts))
+-- a rounded length fits the newest block
+abbrev pub has_room : List BlockState → ℕ → Bool
+has_room blocks len = nat_le len (room_of (newest blocks))
 
--- as many blocks as numbers can name, the first at 0, each of a length that a placement has
-pub record IsLaidOut (starts row : List ℕ) : Type 0 where
-  pub few : length starts < 2 ^ 32
-  pub first : get_or (bounds starts row) 0 0 ≡ 0
-  pub each : (k : ℕ) → k < length starts → (get_or (bounds starts row) k 0 < get_or (bounds starts row) (k + 1) 0) × IsLength (get_or (bounds starts row) (k + 1) 0 - get_or (bounds starts row) k 0)
+-- the size of the block that a rounded length would open
+abbrev pub opened : Policy → List BlockState → ℕ → ℕ
+opened policy blocks len = next_size policy (size_before (sizes_of blocks) (length blocks)) len
 
--- what the fields of an arena say
-abbrev pub state_of : Inside → SerialState
-state_of a = record {
-  owner = a.owner;
-  life = a.life;
-  region = a.region;
-  placements = blocks_in a.starts.items a.row.items;
-  kept = map (λ v. v.items) a.kept.items;
-}
+-- the blocks once there is room for a rounded length
+abbrev pub blocks_for : Policy → List BlockState → ℕ → List BlockState
+blocks_for policy blocks len = if has_room blocks len then blocks else blocks ++ fresh_block (opened policy blocks len) ∷ []
 
-abbrev pub HoldsBlocks : Inside → Type 0
-HoldsBlocks a = IsLaidOut a.starts.items a.row.items
+-- the bytes that are allocated for that
+abbrev pub size_for : Policy → List BlockState → ℕ → ℕ
+size_for policy blocks len = if has_room blocks len then 0 else opened policy blocks len
+
+-- the blocks after so many bytes were placed in the newest one
+abbrev pub with_filled : List BlockState → ℕ → List BlockState
+with_filled blocks bytes = set blocks (length blocks - 1) (with_part (newest blocks) bytes)
+
+-- the blocks after a write into one of them, from an offset on
+abbrev pub with_written : List BlockState → ℕ → ℕ → List ℕ → List BlockState
+with_written blocks b offset bytes = set blocks b (with_bytes (block_at blocks b) offset bytes)
+
+-- there are 2^32 - 1 blocks, and a rounded length wants another one
+pub record AreSpent (blocks : List BlockState) (len : ℕ) : Type 0 where
+  pub count : length blocks ≡ 2 ^ 32 - 1
+  pub needed : room_of (newest blocks) < len
+
+-- why there is no room: `BlocksSpent` exactly where the blocks are spent
+abbrev pub Refused : List BlockState → ℕ → ℕ → MemFault → Type 0
+Refused blocks len region NoMemory = AreSpent blocks len → ⊥
+Refused blocks len region (BlocksSpent named) = (named ≡ region) × AreSpent blocks len
+
+-- the blocks hold the placements, and two sums are kept beside them
+pub record HoldsAll (policy : Policy) (blocks : List BlockState) (spans : List Span) (used allocated : ℕ) : Type 0 where
+  pub few : length blocks < 2 ^ 32
+  pub valid : IsValid policy
+  pub laid : Laid policy (sizes_of blocks) spans
+  pub small : (b : ℕ) → b < length (sizes_of blocks) → size_at (sizes_of blocks) b ≤ 2 ^ 31 + 8
+  -- each placement lies in what is filled of its block, and the newest block is filled to the last one
+  pub filled : (k : ℕ) → k < length spans → end_of (span_at spans k) ≤ length (block_at blocks (span_at spans k).block).bytes
+  pub last : 0 < length blocks → length (newest blocks).bytes ≡ filled_to spans
+  -- the sums are those of the lengths and of the sizes, and each stays within 64 bits
+  pub used_is : used ≡ sum_by (λ (x : Span). x.len) spans
+  pub used_few : used + room_of (newest blocks) ≤ 2 ^ 31 * length blocks
+  pub allocated_is : allocated ≡ sum (sizes_of blocks)
+  pub allocated_few : allocated ≤ 2 ^ 32 * length blocks

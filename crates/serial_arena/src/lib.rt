@@ -1,15 +1,18 @@
-//! One caller's arena: it places messages and keeps long byte strings, and gives all up together.
+//! One caller's arena: it places messages in blocks, keeps long byte strings, and gives all up together.
 //!
-//! It stands on `arena_mem`, whose trait `Memory` it implements, and the program's arena is made of it. Its
-//! contract: it is a finite map from places and buffers to bytes, and no two of its places share a byte.
+//! It stands over `arena_block` and `cleanup_list`, implements `Memory` and `Part` of `arena_mem`, and the program's
+//! arena is made of it. Its contract: it is a finite map from places and buffers to bytes; its placements are laid in
+//! blocks by the policy, and no two share a byte; its end runs each cleanup once, the last one first.
 #![tactic(auto)]
 
 mod arena;
 mod blocks;
+mod kept;
 mod laws;
 mod memory;
+mod span;
 #[cfg(test)]
 mod tests;
 
-pub use arena::{SerialArena, SerialKey};
-pub use laws::{blocks_hold_places, places_lie_apart};
+pub use arena::{SerialArena, SerialKey, SerialRecord};
+pub use laws::{blocks_hold_places, laid_spans_lie_apart, places_lie_apart};

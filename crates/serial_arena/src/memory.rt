@@ -1,15 +1,17 @@
 // The arena as a memory.
-ghost use Rattle.std.specs.Prelude.{◌≡◌, ◌+◌, ◌-◌, ◌^◌, ◌≤◌, ℕ, List, None, Some, Err, length, replicate, IfOk, IfErr, OnOk, OnErr};
+ghost use Rattle.std.specs.Prelude.{◌≡◌, ◌+◌, ◌≤◌, ℕ, List, None, Some, Err, length, replicate, IfOk, IfErr, OnOk, OnErr};
 ghost use Rattle.std.specs.Option.{option_map};
 ghost use Rattle.std.specs.FinMap as map;
 ghost use Rattle.arena_mem.specs.declared.place.Place.{Place};
 ghost use Rattle.arena_mem.specs.declared.memory.MemFault.TheVariants.{BlocksSpent};
 ghost use Rattle.arena_mem.specs.Places.{round8, splice, written, IsPlaceable, IsLive, IsKept, KeepsRest, KeepsBuffers, AddsAtMostABlock, NamesFullRegion};
 ghost use Rattle.serial_arena.specs.Key.{key_of};
-ghost use Rattle.serial_arena.specs.Serial.{place_in, next_placement, with_place, with_bytes, with_kept, Refuses, places_of, buffers_of, blocks_of};
+ghost use Rattle.serial_arena.specs.Serial.{place_in, next_placement, with_place, with_bytes, with_kept, IsSpent, Refuses, places_of, buffers_of, blocks_of};
 
 use crate::arena::{SerialArena, SerialKey};
-use crate::blocks::{add_block, overwrite, part, rounded, start_of};
+use crate::blocks::{add_size, fill_newest, make_room, read_part, rounded, write_part};
+use crate::kept::KeptBytes;
+use crate::span::Span;
 use arena_mem::{Buffer, MemFault, Memory, NoMemory, Place};
 
 impl Memory for SerialArena {
@@ -37,36 +39,41 @@ impl Memory for SerialArena {
         ensures blocks_unchanged { OnErr result ((region : ℕ) → blocks_of self.new region ≡ blocks_of self.old region) }
         ensures spent { IfErr result (NamesFullRegion (blocks_of self.new)) }
 
-        // A block of its own at offset 16, under the next number; a refusal leaves the whole arena as it was.
+        // The newest block where the rounded length fits, else the next block; a refusal leaves the whole arena as it was.
         ensures name { IfOk result (λ p. p ≡ place_in self.old.region (next_placement self.old bytes)) }
         ensures placed { OnOk result (self.new ≡ with_place self.old bytes) }
         ensures same { OnErr result (self.new ≡ self.old) }
 
-        // `BlocksSpent` comes exactly where 2^32 - 1 blocks are there.
-        ensures refusal { IfErr result (Refuses self.old) }
-        ensures full { length self.old.placements ≡ 2 ^ 32 - 1 → result ≡ Err (BlocksSpent self.old.region) }
+        // `BlocksSpent` comes exactly where there are 2^32 - 1 blocks and another one is needed.
+        ensures refusal { IfErr result (Refuses self.old bytes) }
+        ensures full { IsSpent self.old bytes → result ≡ Err (BlocksSpent self.old.region) }
     {
-        let block = self.starts.len();
-        if block >= u32::MAX as usize {
-            return Err(MemFault::BlocksSpent {
-                region: self.region,
-            });
-        }
         let len = rounded(bytes);
-        let Ok(()) = add_block(&mut self.starts, &mut self.row, len) else {
-            return Err(MemFault::NoMemory);
+        let added = match make_room(
+            &mut self.blocks,
+            &mut self.spans,
+            &self.policy,
+            self.region,
+            len,
+        ) {
+            Ok(added) => added,
+            Err(fault) => return Err(fault),
         };
+        self.used += len as u64;
+        add_size(&mut self.allocated, added);
+        let block = (self.blocks.len() - 1) as u32;
+        let offset = fill_newest(&mut self.blocks, bytes);
+        self.spans.push_reserved(Span { block, offset, len });
         Ok(Place {
             region: self.region,
-            block: block as u32,
-            offset: 16,
+            block,
+            offset,
             len,
         })
     }
 
     fn read(&self, place: Place) -> &[u8] {
-        let start = start_of(&self.starts, place.block);
-        part(&self.row, start, place.len)
+        read_part(&self.blocks, place.block, place.offset, place.len)
     }
 
     fn write(&mut self, place: Place, start: u32, bytes: &[u8])
@@ -83,8 +90,7 @@ impl Memory for SerialArena {
         ensures still_live { (q : Place) → IsLive (places_of self.old) q → IsLive (places_of self.new) q }
         ensures wrote { self.new ≡ with_bytes self.old place start bytes.now }
     {
-        let at = start_of(&self.starts, place.block) + start as usize;
-        overwrite(&mut self.row, at, bytes);
+        write_part(&mut self.blocks, place.block, place.offset + start, bytes);
     }
 
     fn keep(&mut self, bytes: Vec<u8>) -> Result<Buffer, (NoMemory, Vec<u8>)>
@@ -103,10 +109,10 @@ impl Memory for SerialArena {
         ensures kept { OnOk result (self.new ≡ with_kept self.old bytes.items) }
         ensures same { OnErr result (self.new ≡ self.old) }
     {
-        let number = self.kept.len() as u64;
-        if let Err(refused) = self.kept.push(bytes) {
-            return Err((NoMemory, refused.value));
-        }
+        let number = match self.kept.register(KeptBytes { bytes }) {
+            Ok(number) => number,
+            Err((fault, refused)) => return Err((fault, refused.bytes)),
+        };
         Ok(Buffer {
             region: self.region,
             number,
@@ -114,6 +120,6 @@ impl Memory for SerialArena {
     }
 
     fn kept(&self, buffer: Buffer) -> &[u8] {
-        &self.kept[buffer.number as usize]
+        &self.kept.item(buffer.number).bytes
     }
 }

@@ -1,9 +1,13 @@
-// Worked values: names, lengths, zeros, and what is read back.
+// Worked values: blocks by the policy, names, zeros, what is read back, and the end.
 ghost use Rattle.std.specs.Prelude.{◌≤◌};
 ghost use Rattle.arena_mem.specs.Places.{IsPlaceable};
 
-use crate::{SerialArena, blocks_hold_places, places_lie_apart};
-use arena_mem::{Buffer, MemFault, Memory, Place};
+use crate::{
+    SerialArena, SerialRecord, blocks_hold_places, laid_spans_lie_apart, places_lie_apart,
+};
+use arena_block::Policy;
+use arena_mem::{Buffer, MemFault, Memory, Part, Place};
+use cleanup_list::{ListWatch, SilentWatch};
 use std::process::Abort;
 use std::test::Fail;
 
@@ -31,32 +35,55 @@ fn try_place(
     Ok(())
 }
 
-fn named(block: u32, len: u32) -> Place {
+fn named(block: u32, offset: u32, len: u32) -> Place {
     Place {
         region: 7,
         block,
-        offset: 16,
+        offset,
         len,
     }
 }
 
 #[test]
-fn places_are_blocks_of_zeros(rt: HostRuntime) -> Result<(), Fail> {
-    let mut arena = SerialArena::new(rt.alloc(), 3, 5, 7);
+fn blocks_double_and_are_filled(rt: HostRuntime) -> Result<(), Fail> {
+    let mut arena = SerialArena::new(rt.alloc(), Policy::profile(), 3, 5, 7);
     assert_eq!(rt; arena.region(), 7);
-    assert_eq!(rt; arena.space_used(), 0);
-    try_place(&rt, &mut arena, 1, named(0, 8))?;
-    try_place(&rt, &mut arena, 8, named(1, 8))?;
-    try_place(&rt, &mut arena, 9, named(2, 16))?;
-    try_place(&rt, &mut arena, 32, named(3, 32))?;
-    try_place(&rt, &mut arena, 40000, named(4, 40000))?;
-    assert_eq!(rt; arena.space_used(), 40064);
+    assert_eq!(rt; (arena.owner(), arena.life(), arena.used()), (3, 5, 0));
+    // What is placed, where, and the sizes of the blocks together.
+    let rows = [
+        (240, 0, 16, 256),
+        (8, 1, 16, 768),
+        (600, 2, 16, 1792),
+        (40000, 3, 16, 41808),
+        (8, 4, 16, 74576),
+        (1, 4, 24, 74576),
+        (9, 4, 32, 74576),
+        (100, 4, 48, 74576),
+    ];
+    for (bytes, block, offset, allocated) in rows {
+        let len = (bytes + 7) / 8 * 8;
+        try_place(&rt, &mut arena, bytes, named(block, offset, len))?;
+        assert_eq!(rt; arena.space_allocated(), allocated, "at {bytes}");
+        if block == 4 && offset == 16 {
+            assert_eq!(rt; arena.space_used(), 40856);
+        }
+    }
+    assert_eq!(rt; arena.space_used(), 40984);
+    assert_eq!(rt; arena.used(), 40984);
+    places_lie_apart(&arena);
+    blocks_hold_places(&arena);
+    laid_spans_lie_apart();
+    let record = arena.end(&mut SilentWatch);
+    assert_eq!(rt;
+        (record.registered, record.cleaned, record.used),
+        (0, 0, 40984)
+    );
     Ok(())
 }
 
 #[test]
 fn a_write_changes_one_place(rt: HostRuntime) -> Result<(), Fail> {
-    let mut arena = SerialArena::new(rt.alloc(), 0, 0, 0);
+    let mut arena = SerialArena::new(rt.alloc(), Policy::profile(), 0, 0, 0);
     let first = arena.place(8)?;
     let second = arena.place(9)?;
     let third = arena.place(8)?;
@@ -66,34 +93,28 @@ fn a_write_changes_one_place(rt: HostRuntime) -> Result<(), Fail> {
     assert_eq!(rt; arena.read(first), b"abcdefgh".as_slice());
     assert_eq!(rt; arena.read(second), b"\0\0\00123456789\0\0\0".as_slice());
     assert_eq!(rt; arena.read(third), b"ijklmnop".as_slice());
-    places_lie_apart(&arena);
-    blocks_hold_places(&arena);
     Ok(())
 }
 
 #[test]
-fn byte_strings_are_kept(rt: HostRuntime) -> Result<(), Fail> {
-    let mut arena = SerialArena::new(rt.alloc(), 0, 0, 2);
-    let long = b"a long text".to_vec(rt.alloc())?;
-    let empty = Vec::new(rt.alloc());
-    let first = arena.keep(long).map_err(|refused| refused.0)?;
-    let second = arena.keep(empty).map_err(|refused| refused.0)?;
-    assert_eq!(rt;
-        first,
-        Buffer {
-            region: 2,
-            number: 0
-        }
-    );
-    assert_eq!(rt;
-        second,
-        Buffer {
-            region: 2,
-            number: 1
-        }
-    );
-    assert_eq!(rt; arena.kept(first), b"a long text".as_slice());
-    assert_eq!(rt; arena.kept(second).len(), 0);
-    assert_eq!(rt; arena.space_used(), 0);
+fn kept_byte_strings_are_told_at_the_end(rt: HostRuntime) -> Result<(), Fail> {
+    let mut arena = SerialArena::new(rt.alloc(), Policy::profile(), 0, 5, 3);
+    for (number, text) in [(0, "a long text"), (1, ""), (2, "another")] {
+        let bytes = text.as_bytes().to_vec(rt.alloc())?;
+        let buffer = arena.keep(bytes).map_err(|refused| refused.0)?;
+        assert_eq!(rt; buffer, Buffer { region: 3, number });
+        assert_eq!(rt; arena.kept(buffer), text.as_bytes());
+        assert_eq!(rt; arena.registered(), number + 1);
+    }
+    assert_eq!(rt; (arena.space_used(), arena.space_allocated()), (0, 0));
+    let mut watch = ListWatch::with_room(rt.alloc(), 3)?;
+    let record = arena.end(&mut watch);
+    assert_eq!(rt; watch.told(), [(5, 3, 2), (5, 3, 1), (5, 3, 0)].as_slice());
+    let want = SerialRecord {
+        registered: 3,
+        cleaned: 3,
+        used: 0,
+    };
+    assert_eq!(rt; record, want);
     Ok(())
 }

@@ -4,22 +4,25 @@ use Rattle.std.specs.FinMap as fin
 use Rattle.std.proofs.lemmas.List.{map-append, length-map}
 use Rattle.arena_mem.specs.declared.place.Buffer.{Buffer}
 use Rattle.serial_arena.specs.Serial.{SerialState, buffers_of, with_kept}
+use Rattle.serial_arena.specs.declared.kept.KeptBytes.{KeptBytes}
 use Rattle.serial_arena.proofs.Names.{next_buffer, next_buffer_is_new, with_kept_inserts, new_buffer_is, with_kept_keeps}
 use Rattle.serial_arena.proofs.States.{kept_more}
 use Rattle.serial_arena.proofs.memory.SerialArenaMemory.keep.Goals as goal
-use Rattle.serial_arena.proofs.memory.SerialArenaMemory.keep.Goals.{In_default}
+use Rattle.serial_arena.proofs.memory.SerialArenaMemory.keep.Goals.{In-Ok}
 
-abbrev answer : In_default → Buffer
-answer c = record { region = c.self.inside.region; number = c.len-number.result }
+abbrev answer : In-Ok → Buffer
+answer c = record { region = c.self.inside.region; number = c.in-Ok.number }
 
-named : (c : In_default) → answer c ≡ next_buffer c.args.self.now
+named : (c : In-Ok) → answer c ≡ next_buffer c.args.self.now
 named c =
     let region = ap (λ (s : SerialState). s.region) c.self.view_is in
-    let number : c.len-number.result ≡ length c.args.self.now.kept = c.len-number.ensures ∙ c.self.inside.kept.ok.0 ∙ sym (length-map c.self.inside.kept.items (λ v. v.items)) ∙ ap (λ (s : SerialState). length s.kept) c.self.view_is in
+    let number : c.in-Ok.number ≡ length c.args.self.now.kept = c.in-Ok.ensures.number ∙ sym (length-map c.self.inside.kept (λ (k : KeptBytes). k.bytes.items)) ∙ ap (λ (s : SerialState). length s.kept) c.self.view_is in
     λ i. record { region = region i; number = number i }
 
 pub returns-clause-kept : goal.returns-clause-kept
-returns-clause-kept c = kept_more _ _ _ _ _ _ _ c.self.view_is c.self.invariant _ c.args.bytes.items (ap (map (λ v. v.items)) c.in_default.ensures.items ∙ map-append (λ v. v.items) c.self.inside.kept.items (c.args.bytes ∷ []))
+returns-clause-kept c =
+    kept_more _ _ _ _ _ _ _ _ _ _ c.self.view_is c.self.invariant _ c.args.bytes.items
+    (ap (map (λ (k : KeptBytes). k.bytes.items)) c.in-Ok.ensures.registered ∙ map-append (λ (k : KeptBytes). k.bytes.items) c.self.inside.kept (record { bytes = c.args.bytes } ∷ []))
 
 pub returns-clause-fresh : goal.returns-clause-fresh
 returns-clause-fresh c = ap (fin.get (buffers_of c.args.self.now)) (named c) ∙ next_buffer_is_new c.args.self.now

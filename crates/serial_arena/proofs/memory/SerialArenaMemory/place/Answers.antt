@@ -1,77 +1,114 @@
-use Rattle.std.proofs.Common.{◌≡◌, ◌<◌, ◌^◌, ◌-◌, length, Some, ◌++◌, sym, ap, subst, ◌∙◌, arith}
-use Rattle.std.specs.Prelude.{replicate}
+use Rattle.std.proofs.Common.{◌≡◌, ℕ, ◌-◌, ◌+◌, List, [], ◌∷◌, ◌++◌, length, Some, sym, ap, subst, ◌∙◌, arith}
+use Rattle.std.specs.Prelude.{map, replicate, is_ok, Err}
+use Rattle.std.specs.Result.{result_err}
+use Rattle.std.proofs.lemmas.Option.{same_Some}
+use Rattle.std.proofs.lemmas.Bool.{false≢true}
+use Rattle.arena_mem.specs.declared.memory.MemFault.TheVariants.{BlocksSpent}
 use Rattle.std.specs.FinMap as fin
 use Rattle.arena_mem.specs.declared.place.Place.{Place}
-use Rattle.arena_mem.specs.Places.{AddsAtMostABlock}
-use Rattle.serial_arena.specs.Serial.{SerialState, place_in, places_of, blocks_of, next_placement, with_place, IsSerial}
-use Rattle.serial_arena.proofs.Names.{blocks_here, next_is_new, with_place_inserts, new_place_is_zero, with_place_keeps, one_block_more}
-use Rattle.serial_arena.proofs.States.{state_serial, count_of, placed, placed_well}
+use Rattle.arena_mem.specs.Places.{AddsAtMostABlock, round8}
+use Rattle.arena_block.specs.Block.{BlockState}
+use Rattle.serial_arena.specs.declared.span.Span.{Span}
+use Rattle.serial_arena.specs.declared.kept.KeptBytes.{KeptBytes}
+use Rattle.serial_arena.specs.Laid.{Laid}
+use Rattle.serial_arena.specs.Layout.{HoldsAll, newest, blocks_for, size_for, with_filled, AreSpent, Refused}
+use Rattle.serial_arena.specs.Serial.{SerialState, places_of, blocks_of, spans_of, with_place}
+use Rattle.serial_arena.proofs.Names.{next_is_new, with_place_inserts, new_place_is_zero, with_place_keeps, one_block_more}
+use Rattle.serial_arena.proofs.States.{held, state_serial, placed, holds_placed, here_named, are_spent, refuses}
 use Rattle.serial_arena.proofs.memory.SerialArenaMemory.place.Goals as goal
-use Rattle.serial_arena.proofs.memory.SerialArenaMemory.place.Goals.{Then-block, In_default, In-Ok}
+use Rattle.serial_arena.proofs.memory.SerialArenaMemory.place.Goals.{In-Err, After-push_reserved}
 
--- ---- refused for want of a number
-full : (c : Then-block) → length c.args.self.now.placements ≡ 2 ^ 32 - 1
-full c =
-    let few = c.self.invariant.few in
-    count_of _ _ _ _ _ _ _ c.self.view_is c.self.invariant ∙ omega (arith, c.self.inside.starts.ok.0)
+-- ---- refused
+refused : (c : In-Err) → Refused c.self.inside.blocks.items (round8 c.args.bytes) c.self.inside.region c.in-Err.fault
+refused c = subst (λ n. Refused c.self.inside.blocks.items n c.self.inside.region c.in-Err.fault) c.rounded-len.ensures.value c.in-Err.ensures.refusal
 
-pub returns-then-block-clause-spent : goal.returns-then-block-clause-spent
-returns-then-block-clause-spent c = ap (blocks_of c.args.self.now) (ap (λ (s : SerialState). s.region) c.self.view_is) ∙ blocks_here c.args.self.now ∙ full c
+pub returns-in-Err-clause-refusal : goal.returns-in-Err-clause-refusal
+returns-in-Err-clause-refusal c = refuses _ _ _ _ _ _ _ _ _ _ c.self.view_is c.self.invariant c.args.bytes c.in-Err.fault (refused c)
 
-pub returns-then-block-clause-refusal : goal.returns-then-block-clause-refusal
-returns-then-block-clause-refusal c = (ap (λ (s : SerialState). s.region) c.self.view_is, full c)
-
--- ---- refused for want of memory
-pub returns-in_default-clause-refusal : goal.returns-in_default-clause-refusal
-returns-in_default-clause-refusal c = omega (arith, count_of _ _ _ _ _ _ _ c.self.view_is c.self.invariant, c.self.inside.starts.ok.0)
-
-pub returns-in_default-clause-full : goal.returns-in_default-clause-full
-returns-in_default-clause-full c = λ spent. absurd (omega (arith, spent, count_of _ _ _ _ _ _ _ c.self.view_is c.self.invariant, c.self.inside.starts.ok.0))
+pub returns-in-Err-clause-full : goal.returns-in-Err-clause-full
+returns-in-Err-clause-full c = λ them.
+    let spent = are_spent _ _ _ _ _ _ _ _ _ _ c.self.view_is c.self.invariant c.args.bytes them in
+    let named : c.in-Err.fault ≡ BlocksSpent c.self.inside.region = same_Some _ _ (ap result_err (c.in-Err.ensures.full (subst (AreSpent c.self.inside.blocks.items) (sym c.rounded-len.ensures.value) spent))) in
+    ap Err (named ∙ ap (λ (s : SerialState). BlocksSpent s.region) c.self.view_is)
 
 -- ---- placed
-few : (c : In-Ok) → length c.self.inside.starts.items < 2 ^ 32 - 1
-few c = omega (arith, c.self.inside.starts.ok.0)
+abbrev len : After-push_reserved → ℕ
+len c = round8 c.args.bytes
 
-serial : (c : In-Ok) → IsSerial c.args.self.now
-serial c = state_serial _ _ _ _ _ _ _ c.self.view_is c.self.invariant
+abbrev ready : After-push_reserved → List BlockState
+ready c = blocks_for c.self.inside.policy c.self.inside.blocks.items (len c)
 
-abbrev answer : In-Ok → Place
-answer c = record { region = c.self.inside.region; block = c.len-block.result; offset = 16; len = c.rounded-len.result }
+ready_is : (c : After-push_reserved) → c.make_room.new.blocks.items ≡ ready c
+ready_is c = c.in-Ok.ensures.blocks ∙ ap (blocks_for c.self.inside.policy c.self.inside.blocks.items) c.rounded-len.ensures.value
 
-named : (c : In-Ok) → answer c ≡ place_in c.args.self.now.region (next_placement c.args.self.now c.args.bytes)
-named c =
-    let region = ap (λ (s : SerialState). s.region) c.self.view_is in
-    let block : c.len-block.result ≡ length c.args.self.now.placements = c.len-block.ensures ∙ c.self.inside.starts.ok.0 ∙ sym (count_of _ _ _ _ _ _ _ c.self.view_is c.self.invariant) in
-    λ i. record { region = region i; block = block i; offset = 16; len = c.rounded-len.ensures i }
+abbrev here : After-push_reserved → Span
+here c = record { block = length (ready c) - 1; offset = length (newest (ready c)).bytes; len = len c }
+
+blocks_are : (c : After-push_reserved) → c.fill_newest-offset.new.blocks.items ≡ with_filled (ready c) c.args.bytes
+blocks_are c = c.fill_newest-offset.ensures.filled ∙ ap (λ blocks. with_filled blocks c.args.bytes) (ready_is c)
+
+block_is : (c : After-push_reserved) → c.len.result - 1 ≡ length (ready c) - 1
+block_is c = omega (arith, c.len.ensures, c.make_room.new.blocks.ok.0, ap (λ (blocks : List BlockState). length blocks) (ready_is c))
+
+offset_is : (c : After-push_reserved) → c.fill_newest-offset.result ≡ length (newest (ready c)).bytes
+offset_is c = c.fill_newest-offset.ensures.offset ∙ ap (λ blocks. length (newest blocks).bytes) (ready_is c)
+
+here_is : (c : After-push_reserved) → record { block = c.len.result - 1; offset = c.fill_newest-offset.result; len = c.rounded-len.result } ≡ here c
+here_is c = λ i. record { block = block_is c i; offset = offset_is c i; len = c.rounded-len.ensures.value i }
+
+spans_are : (c : After-push_reserved) → c.push_reserved.new.self.items ≡ c.self.inside.spans.items ++ here c ∷ []
+spans_are c = c.push_reserved.ensures.items ∙ (λ i. c.in-Ok.ensures.spans i ++ here_is c i ∷ [])
+
+added_is : (c : After-push_reserved) → c.in-Ok.added ≡ size_for c.self.inside.policy c.self.inside.blocks.items (len c)
+added_is c = c.in-Ok.ensures.size ∙ ap (size_for c.self.inside.policy c.self.inside.blocks.items) c.rounded-len.ensures.value
+
+allocated_is : (c : After-push_reserved) → c.add_size.new.sum ≡ c.self.inside.allocated + size_for c.self.inside.policy c.self.inside.blocks.items (len c)
+allocated_is c = c.add_size.ensures ∙ ap (λ n. c.self.inside.allocated + n) (added_is c)
+
+laid : (c : After-push_reserved) → Laid c.args.self.now.policy c.args.self.now.sizes (spans_of c.args.self.now)
+laid c = (state_serial _ _ _ _ _ _ _ _ _ _ c.self.view_is c.self.invariant).laid
+
+unspent : (c : After-push_reserved) → AreSpent c.self.inside.blocks.items (len c) → ⊥
+unspent c are = false≢true (sym (ap is_ok (c.in-Ok.ensures.full (subst (AreSpent c.self.inside.blocks.items) (sym c.rounded-len.ensures.value) are))))
 
 pub invariant_of-self-2 : goal.invariant_of-self-2
-invariant_of-self-2 c = placed_well _ _ _ _ _ _ _ c.self.view_is c.self.invariant c.args.bytes _ _ c.requires (few c) c.in-Ok.ensures.starts (c.in-Ok.ensures.row ∙ ap (λ n. c.self.inside.row.items ++ replicate n 0) c.rounded-len.ensures)
+invariant_of-self-2 c =
+    subst (λ (x : List BlockState × (List Span × (ℕ × ℕ))). HoldsAll c.self.inside.policy x.0 x.1.0 (c.self.inside.used + x.1.1.0) x.1.1.1)
+    (λ i. (sym (blocks_are c) i, (sym (spans_are c) i, (sym c.rounded-len.ensures.value i, sym (allocated_is c) i))))
+    (holds_placed _ _ _ _ _ _ _ _ _ _ c.self.view_is c.self.invariant c.args.bytes c.requires (unspent c))
 
 pub returns-clause-placed : goal.returns-clause-placed
-returns-clause-placed c = placed _ _ _ _ _ _ _ c.self.view_is c.self.invariant c.args.bytes _ _ c.in-Ok.ensures.starts (c.in-Ok.ensures.row ∙ ap (λ n. c.self.inside.row.items ++ replicate n 0) c.rounded-len.ensures)
+returns-clause-placed c =
+    (λ i. held c.self.inside.owner c.self.inside.life c.self.inside.region c.self.inside.policy (blocks_are c i) (spans_are c i) (map (λ (k : KeptBytes). k.bytes.items) c.self.inside.kept))
+    ∙ placed _ _ _ _ _ _ _ _ _ _ c.self.view_is c.self.invariant c.args.bytes c.requires
+
+abbrev answer : After-push_reserved → Place
+answer c = record { region = c.self.inside.region; block = c.len.result - 1; offset = c.fill_newest-offset.result; len = c.rounded-len.result }
 
 pub returns-clause-name : goal.returns-clause-name
-returns-clause-name c = named c
+returns-clause-name c =
+    (λ i. record { region = c.self.inside.region; block = block_is c i; offset = offset_is c i; len = c.rounded-len.ensures.value i })
+    ∙ here_named _ _ _ _ _ _ _ _ _ _ c.self.view_is c.self.invariant c.args.bytes c.requires
 
 pub returns-clause-fresh : goal.returns-clause-fresh
-returns-clause-fresh c = ap (fin.get (places_of c.args.self.now)) (named c) ∙ next_is_new c.args.self.now (serial c) c.args.bytes
+returns-clause-fresh c = ap (fin.get (places_of c.args.self.now)) (returns-clause-name c) ∙ next_is_new c.args.self.now (laid c) c.args.bytes c.requires
 
 pub returns-clause-zeros : goal.returns-clause-zeros
 returns-clause-zeros c = ap (λ (s : SerialState). fin.get (places_of s) (answer c)) (returns-clause-placed c)
-    ∙ ap (fin.get (places_of (with_place c.args.self.now c.args.bytes))) (named c)
-    ∙ new_place_is_zero c.args.self.now (serial c) c.args.bytes
-    ∙ ap (λ n. Some (replicate n 0)) (sym c.rounded-len.ensures)
+    ∙ ap (fin.get (places_of (with_place c.args.self.now c.args.bytes))) (returns-clause-name c)
+    ∙ new_place_is_zero c.args.self.now (laid c) c.args.bytes c.requires
+    ∙ ap (λ n. Some (replicate n 0)) (sym c.rounded-len.ensures.value)
 
 pub returns-clause-map : goal.returns-clause-map
 returns-clause-map c = ap places_of (returns-clause-placed c)
-    ∙ with_place_inserts c.args.self.now (serial c) c.args.bytes
-    ∙ sym (λ i. fin.insert (places_of c.args.self.now) (named c i) (replicate (c.rounded-len.ensures i) 0))
+    ∙ with_place_inserts c.args.self.now (laid c) c.args.bytes c.requires
+    ∙ sym (λ i. fin.insert (places_of c.args.self.now) (returns-clause-name c i) (replicate (c.rounded-len.ensures.value i) 0))
 
 pub returns-clause-rest : goal.returns-clause-rest
-returns-clause-rest c q was is = ap (λ (s : SerialState). fin.get (places_of s) q) (returns-clause-placed c) ∙ with_place_keeps c.args.self.now (serial c) c.args.bytes q was is
+returns-clause-rest c q was is = ap (λ (s : SerialState). fin.get (places_of s) q) (returns-clause-placed c) ∙ with_place_keeps c.args.self.now (laid c) c.args.bytes c.requires q was is
 
 pub returns-clause-blocks : goal.returns-clause-blocks
 returns-clause-blocks c = subst (λ (s : SerialState). AddsAtMostABlock (blocks_of c.args.self.now) (blocks_of s)) (sym (returns-clause-placed c)) (one_block_more c.args.self.now c.args.bytes)
 
 pub returns-clause-full : goal.returns-clause-full
-returns-clause-full c = λ spent. absurd (omega (arith, spent, few c, count_of _ _ _ _ _ _ _ c.self.view_is c.self.invariant))
+returns-clause-full c = λ them. absurd (unspent c (are_spent _ _ _ _ _ _ _ _ _ _ c.self.view_is c.self.invariant c.args.bytes them))

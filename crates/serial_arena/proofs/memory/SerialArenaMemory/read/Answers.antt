@@ -3,22 +3,18 @@ use Rattle.std.proofs.lemmas.List.{length-take, length-drop}
 use Rattle.serial_arena.proofs.States.{lies_there}
 use Rattle.serial_arena.proofs.memory.SerialArenaMemory.read.Goals as goal
 
-pub start_of-start-requires : goal.start_of-start-requires
-start_of-start-requires c =
-    let there = lies_there _ _ _ _ _ _ _ c.self.view_is c.self.invariant c.args.place c.requires in
-    rw c.deref.ensures.value there.block
+pub read_part-requires-clause-there : goal.read_part-requires-clause-there
+read_part-requires-clause-there c = rw c.deref.ensures.value (lies_there _ _ _ _ _ _ _ _ _ _ c.self.view_is c.self.invariant c.args.place c.requires).block
 
-pub part-requires : goal.part-requires
-part-requires c =
-    let there = lies_there _ _ _ _ _ _ _ c.self.view_is c.self.invariant c.args.place c.requires in
-    rw (c.start_of-start.ensures, c.deref.ensures.value, c.deref-2.ensures.value) there.fits
+pub read_part-requires-clause-part : goal.read_part-requires-clause-part
+read_part-requires-clause-part c =
+    let lies = lies_there _ _ _ _ _ _ _ _ _ _ c.self.view_is c.self.invariant c.args.place c.requires in
+    rw c.deref.ensures.value (record { behind = lies.behind; within = lies.fits })
 
 pub returns-clause-value : goal.returns-clause-value
-returns-clause-value c =
-    let there = lies_there _ _ _ _ _ _ _ c.self.view_is c.self.invariant c.args.place c.requires in
-    rw (c.part.ensures, c.start_of-start.ensures, c.deref.ensures.value, c.deref-2.ensures.value) there.bytes
+returns-clause-value c = rw (c.read_part.ensures, c.deref.ensures.value) (lies_there _ _ _ _ _ _ _ _ _ _ c.self.view_is c.self.invariant c.args.place c.requires).bytes
 
 pub returns-clause-len : goal.returns-clause-len
 returns-clause-len c =
-    let there = lies_there _ _ _ _ _ _ _ c.self.view_is c.self.invariant c.args.place c.requires in
-    rw (c.part.ensures, c.start_of-start.ensures, c.deref.ensures.value, c.deref-2.ensures.value) (simp (length-take, length-drop) (omega (arith, there.fits)))
+    let lies = lies_there _ _ _ _ _ _ _ _ _ _ c.self.view_is c.self.invariant c.args.place c.requires in
+    rw (c.read_part.ensures, c.deref.ensures.value) (simp (length-take, length-drop) (omega (arith, lies.fits)))

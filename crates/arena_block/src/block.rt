@@ -1,0 +1,90 @@
+// Bump placement within one block.
+ghost use Rattle.std.specs.Prelude.{◌≡◌, ◌+◌, ◌-◌, ◌^◌, ◌≤◌, ◌++◌, length, replicate, IfOk, vec_capacity};
+ghost use Rattle.arena_block.specs.Policy.{round8};
+
+use crate::filled::{fill, overwrite, part, rounded};
+use no_memory::NoMemory;
+use std::alloc::Global;
+use std::marker::Model;
+
+/// A block of fixed size, filled from its start on: 16 bytes of header, then part after part.
+///
+/// Its memory is taken at once, and each byte is written for the first time when its part is placed.
+#[derive(Drop)]
+pub struct Block {
+    size: u32,
+    bytes: Vec<u8>,
+}
+
+impl Model for Block {
+    ghost use Rattle.std.specs.Prelude.{◌≤◌, vec_capacity};
+    ghost use Rattle.arena_block.specs.Block.{BlockState, IsBlock};
+
+    ghost Value = { BlockState };
+
+    ghost view = { λ b. record { size = b.size; bytes = b.bytes.items } };
+
+    // The room that is left was reserved with the block.
+    ghost invariant = { λ b. IsBlock (record { size = b.size; bytes = b.bytes.items }) × (b.size ≤ vec_capacity b.bytes) };
+}
+
+impl Block {
+    ghost use Rattle.arena_block.specs.Block.{fresh_block, room_of, part_of, with_part, with_bytes, IsBlock, IsPart};
+
+    /// A block of that many bytes, of which its header is filled.
+    pub fn new(alloc: Global, size: u32) -> Result<Block, NoMemory>
+        requires least { 24 ≤ size }
+        requires most { size ≤ 2 ^ 31 + 8 }
+        ensures { IfOk result (λ block. block ≡ fresh_block size) }
+    {
+        let mut bytes = Vec::with_capacity(alloc, size as usize)?;
+        fill(&mut bytes, 16);
+        Ok(Block { size, bytes })
+    }
+
+    /// Its size in bytes, the header included. It takes no memory.
+    pub fn size(&self) -> u32
+        ensures size { result ≡ self.now.size }
+        ensures block { IsBlock self.now }
+    {
+        self.size
+    }
+
+    /// How many bytes are left, the header counted as filled. It takes no memory.
+    pub fn room(&self) -> u32
+        ensures room { result ≡ room_of self.now }
+        ensures block { IsBlock self.now }
+    {
+        self.size - self.bytes.len() as u32
+    }
+
+    /// Fills `bytes` bytes more, rounded up to a multiple of 8, with zeros, and answers the offset that they begin
+    /// at, which is what was filled before. It takes no memory.
+    pub fn place(&mut self, bytes: u32) -> u32
+        requires some { 1 ≤ bytes }
+        requires most { bytes ≤ 2 ^ 31 - 8 }
+        requires fits { round8 bytes ≤ room_of self.old }
+        ensures offset { result ≡ length self.old.bytes }
+        ensures placed { self.new ≡ with_part self.old bytes }
+    {
+        let offset = self.bytes.len() as u32;
+        fill(&mut self.bytes, rounded(bytes) as usize);
+        offset
+    }
+
+    /// Lends `len` bytes from `offset` on. It takes no memory.
+    pub fn read(&self, offset: u32, len: u32) -> &[u8]
+        requires { IsPart self.now offset len }
+        ensures { result.now ≡ part_of self.now offset len }
+    {
+        part(&self.bytes, offset as usize, len as usize)
+    }
+
+    /// Writes `bytes` from `offset` on. It takes no memory.
+    pub fn write(&mut self, offset: u32, bytes: &[u8])
+        requires { IsPart self.old offset (length bytes.now) }
+        ensures { self.new ≡ with_bytes self.old offset bytes.now }
+    {
+        overwrite(&mut self.bytes, offset as usize, bytes);
+    }
+}
