@@ -1,0 +1,20 @@
+mod Ghosts
+pub mod Lists
+pub mod Moved
+pub mod Few
+pub mod Links
+pub mod Keeps
+pub mod Linking
+pub mod States
+pub mod Seats
+pub mod Joining
+pub mod Opening
+pub mod SeatFacts
+pub mod Walks
+pub mod FirstWords
+pub mod Searches
+pub mod Dealing
+pub mod Placing
+pub mod Filling
+pub mod Making
+pub mod Sums

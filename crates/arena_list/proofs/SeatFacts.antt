@@ -1,0 +1,185 @@
+-- What a seat keeps beside its view stays right over each step.
+use Rattle.std.proofs.Common.{◌≡◌, ℕ, ◌+◌, ◌*◌, ◌/◌, ◌%◌, ◌^◌, ◌<◌, ◌≤◌, Bool, true, false, eqb, List, [], ◌∷◌, ◌++◌, length, sym, refl, ap, subst, ◌∙◌, arith, Option, Some, None}
+use Rattle.std.proofs.lemmas.Bool.{false≢true}
+use mathlib.Core.Option.{none}
+use Rattle.std.proofs.lemmas.Option.{none-some}
+use Rattle.atomic_table.specs.Table.{rest as rest_of_slots}
+use prog.Atomic.{either}
+use Rattle.atomic_table.specs.Table.{Step, step, Allows}
+use Rattle.arena_list.specs.declared.founding.Founding.{Founding}
+use Rattle.arena_list.specs.Nodes.{node_word}
+use Rattle.arena_list.specs.Words.{node_at, state_at}
+use Rattle.arena_list.specs.Rule.{Holds}
+use Rattle.arena_list.specs.Steps.{stored_node, took, claimed, gave, carried_of, IsOut, saw_size, sized}
+use Rattle.arena_list.specs.Founded.{Fits}
+use Rattle.arena_list.proofs.States.{takes_slot, claims, gives_slot, sizes_up}
+use Rattle.arena_list.proofs.Keeps.{notes}
+use Rattle.arena_list.proofs.Linking.{links}
+use Rattle.arena_list.specs.declared.view.Node.{Node}
+use Rattle.arena_list.specs.declared.view.Hold.{Hold}
+use Rattle.arena_list.specs.declared.view.Hold.TheVariants.{Vacant, Filling, Away, Rests}
+use Rattle.arena_list.specs.declared.view.Hand.{Hand}
+use Rattle.arena_list.specs.declared.view.View.{View}
+use Rattle.arena_list.specs.Nodes.{before, head_of}
+use Rattle.arena_list.specs.Views.{hand, first_hand, mine, when}
+use Rattle.arena_list.specs.Founded.{Meter}
+use Rattle.arena_list.specs.Steps.{Sat, Sees, IsSeated, looked, counted, joined, held, settled, noted, next_link, own_node, used_now, carried, saw_head, tried_link}
+use Rattle.arena_list.proofs.Links.{before_small, head_more}
+
+module _ {V : Type 0} where
+  out_carries : (s : ℕ) (x : Hold V) → IsOut x → carried_of s x ≡ (s, None) ∷ []
+  out_carries s Vacant out = absurd out
+  out_carries s Filling out = refl
+  out_carries s (Away used) out = refl
+  out_carries s (Rests part) out = absurd out
+
+  pub mine_tells : (v : View V) (s : ℕ) → mine v ≡ Some s → ((hand v).linked ≡ true) × ((hand v).slot ≡ s)
+  mine_tells v s e = told (hand v).linked (hand v).slot s e where
+    told : (b : Bool) (t s : ℕ) → when b t ≡ Some s → (b ≡ true) × (t ≡ s)
+    told true t s e = (refl, cc)
+    told false t s e = absurd (none-some s e)
+
+  -- a seat that took a value carries it
+  pub took_value : (m : Meter V) (part : V) (slot : ℕ) (me me' : Sat V) → me' ≡ (held me.0 (Away (m.used part)), ((hand me.0).slot, Some part) ∷ me.1) → (hand me.0).slot ≡ slot
+      → (old : Option V) × (me'.1 ≡ (slot, old) ∷ rest_of_slots me'.1)
+  took_value m part slot me me' is at = let e = ap (λ (x : Sat V). x.1) is in (Some part, e ∙ (λ i. (at i, Some part) ∷ rest_of_slots (sym e i)))
+
+  -- the emptied slot was filled, and given
+  pub filled : (slot : ℕ) (part : V) (me me' : Sat V) → me.1 ≡ (slot, None) ∷ [] → me' ≡ (me.0, (slot, Some part) ∷ rest_of_slots me.1) → me' ≡ (me.0, (slot, Some part) ∷ [])
+  filled slot part me me' empty is = is ∙ (λ i. (me.0, (slot, Some part) ∷ rest_of_slots (empty i)))
+
+  pub gave_after : (m : Meter V) (st : Step (Option V)) (r slot : ℕ) (part : V) (me me' me'' : Sat V) → me' ≡ (me.0, (slot, Some part) ∷ []) → slot ≡ (hand me.0).slot → gave m st me' r me'' → me'' ≡ (settled m me.0 part, [])
+  gave_after m st r slot part me me' me'' is at told = told part [] (ap (λ (x : Sat V). x.1) is ∙ (λ i. (at i, Some part) ∷ []) ∙ ap (λ (x : Sat V). ((hand x.0).slot, Some part) ∷ []) (sym is)) ∙ ap (λ (x : Sat V). (settled m x.0 part, [])) is
+
+module _ {V : Type 0} (m : Meter V) {caller slot used head : ℕ} {linked : Bool} {me : Sat V} where
+  -- a step that leaves the hands
+  pub seated_as : (head' : ℕ) (me' : Sat V) → me'.0.hands ≡ me.0.hands → me'.1 ≡ me.1 → head' ≡ head_of me'.0.seen → next_link me'.0 ≤ 64 → length me'.0.seen ≤ 64 → (linked ≡ false → length me'.0.seen < 64)
+      → IsSeated m caller slot linked used head me → IsSeated m caller slot linked used head' me'
+  seated_as head' me' hands carries is link few fewer o = let h : hand me'.0 ≡ hand me.0 = ap first_hand hands in record {
+    one = ap length hands ∙ o.one;
+    caller_is = o.caller_is ∙ ap (λ (h : Hand V). h.who) (sym h);
+    slot_is = o.slot_is ∙ ap (λ (h : Hand V). h.slot) (sym h);
+    linked_is = o.linked_is ∙ ap (λ (h : Hand V). h.linked) (sym h);
+    used_is = o.used_is ∙ ap (λ (h : Hand V). used_now m h.hold) (sym h);
+    head_is = is;
+    slot_small = o.slot_small;
+    used_small = o.used_small;
+    link_small = link;
+    few = few;
+    fewer = fewer;
+    carries = carries ∙ o.carries ∙ ap carried (sym h);
+  }
+
+  -- after a look
+  pub seated_look : (st : Step (Option V)) (r : ℕ) (me' : Sat V) → saw_head st me r me' → IsSeated m caller slot linked used head me → IsSeated m caller slot linked used r me'
+  seated_look st r me' told o = let s = told.3 in seated_as r me' (ap (λ (x : Sat V). x.0.hands) told.0) (ap (λ (x : Sat V). x.1) told.0) told.1 (before_small me'.0.seen s.small (length me'.0.seen)) s.few
+      (λ e. s.fewer (sym o.linked_is ∙ e)) o
+
+  -- after a step that changes the count alone
+  pub seated_count : (me' : Sat V) → me' ≡ (counted me.0, me.1) → IsSeated m caller slot linked used head me → IsSeated m caller slot linked used head me'
+  seated_count me' is o = let seen : me'.0.seen ≡ me.0.seen = ap (λ (x : Sat V). x.0.seen) is in seated_as head me' (ap (λ (x : Sat V). x.0.hands) is) (ap (λ (x : Sat V). x.1) is) (o.head_is ∙ ap head_of (sym seen))
+      (subst (λ (l : List Node). before l (length l) ≤ 64) (sym seen) o.link_small) (subst (λ (l : List Node). length l ≤ 64) (sym seen) o.few) (λ e. subst (λ (l : List Node). length l < 64) (sym seen) (o.fewer e)) o
+
+  -- the numbers in the head that was seen
+  pub head_count : IsSeated m caller slot linked used head me → head / 2 ^ 32 ≡ length me.0.seen
+  head_count o = let a = o.head_is in let b = o.link_small in omega arith
+
+  pub head_link : IsSeated m caller slot linked used head me → head % 2 ^ 32 ≡ next_link me.0
+  head_link o = let a = o.head_is in let b = o.link_small in omega arith
+
+  -- the store into the own spare's node
+  pub note_step : (k : Founding V) (slots id word new : ℕ) → IsSeated m caller slot linked used head me → linked ≡ false → word ≡ 8 + slot → new ≡ caller * 2 ^ 32 + head % 2 ^ 32
+      → Allows (Holds m k) slots id me word (λ _. new) (λ _. stored_node (step slots word new 0 none) me new)
+  note_step k slots id word new o spare at is = subst (λ (w : ℕ). Allows (Holds m k) slots id me w (λ _. new) (λ _. stored_node (step slots w new 0 none) me new)) (sym (at ∙ ap node_at o.slot_is))
+      (notes m k slots id new me o.one (sym o.linked_is ∙ spare) (is ∙ (λ i. node_word (o.caller_is i) (head_link o i))))
+
+  -- the exchange of the head, after that store
+  pub link_step : (k : Founding V) (slots id new : ℕ) (me' : Sat V) → IsSeated m caller slot linked used head me → linked ≡ false → me' ≡ (noted me.0, me.1) → new ≡ (head / 2 ^ 32 + 1) * 2 ^ 32 + slot + 1
+      → Allows (Holds m k) slots id me' 0 (λ n. either (eqb n head) new n) (tried_link (step slots 0 head new none) me')
+  link_step k slots id new me' o spare after is = subst (λ (x : Sat V). Allows (Holds m k) slots id x 0 (λ n. either (eqb n head) new n) (tried_link (step slots 0 head new none) x)) (sym after)
+      (links m k slots id head new (noted me.0, me.1) refl (sym o.linked_is ∙ spare) refl o.head_is
+      (let h = head_more me.0.seen (own_node me.0) in let c = head_count o in let s = o.slot_is in omega arith))
+
+  -- after an exchange that linked the spare
+  pub seated_linked : (me' : Sat V) (new : ℕ) → IsSeated m caller slot linked used head me → me' ≡ (joined (noted me.0), me.1) → Sees (hand me'.0) me'.0.seen → new ≡ (head / 2 ^ 32 + 1) * 2 ^ 32 + slot + 1
+      → IsSeated m caller slot true used new me'
+  seated_linked me' new o after sees is = let v = joined (noted me.0) in let at = sym after in record {
+    one = ap (λ (x : Sat V). length x.0.hands) after;
+    caller_is = o.caller_is ∙ ap (λ (x : Sat V). (hand x.0).who) at;
+    slot_is = o.slot_is ∙ ap (λ (x : Sat V). (hand x.0).slot) at;
+    linked_is = ap (λ (x : Sat V). (hand x.0).linked) at;
+    used_is = o.used_is ∙ ap (λ (x : Sat V). used_now m (hand x.0).hold) at;
+    head_is = (let h = head_more me.0.seen (own_node me.0) in let c = head_count o in let s = o.slot_is in let z : new ≡ head_of (me.0.seen ++ own_node me.0 ∷ []) = omega arith in z) ∙ ap (λ (x : Sat V). head_of x.0.seen) at;
+    slot_small = o.slot_small;
+    used_small = o.used_small;
+    link_small = before_small me'.0.seen sees.small (length me'.0.seen);
+    few = sees.few;
+    fewer = λ e. absurd (false≢true (sym e));
+    carries = ap (λ (x : Sat V). x.1) after ∙ o.carries ∙ ap (λ (x : Sat V). carried (hand x.0)) at;
+  }
+
+  -- after one that showed a longer list
+  pub seated_missed : (st : Step (Option V)) (r : ℕ) (me1 me' : Sat V) → IsSeated m caller slot linked used head me → me1 ≡ (noted me.0, me.1) → saw_head st me1 r me' → IsSeated m caller slot linked used r me'
+  seated_missed st r me1 me' o after told = let s = told.3 in let v = me'.0 in let at : me' ≡ (looked (noted me.0) v.seen, me.1) = told.0 ∙ ap (λ (x : Sat V). (looked x.0 v.seen, x.1)) after in
+      let h : hand me'.0 ≡ hand (noted me.0) = ap (λ (x : Sat V). hand x.0) at in record {
+        one = ap (λ (x : Sat V). length x.0.hands) at;
+        caller_is = o.caller_is ∙ ap (λ (h : Hand V). h.who) (sym h);
+        slot_is = o.slot_is ∙ ap (λ (h : Hand V). h.slot) (sym h);
+        linked_is = o.linked_is ∙ ap (λ (h : Hand V). h.linked) (sym h);
+        used_is = o.used_is ∙ ap (λ (h : Hand V). used_now m h.hold) (sym h);
+        head_is = told.1;
+        slot_small = o.slot_small;
+        used_small = o.used_small;
+        link_small = before_small v.seen s.small (length v.seen);
+        few = s.few;
+        fewer = λ e. s.fewer (ap (λ (x : Sat V). (hand x.0).linked) after ∙ sym o.linked_is ∙ e);
+        carries = ap (λ (x : Sat V). x.1) at ∙ o.carries ∙ ap carried (sym h);
+      }
+
+  -- a step that changes where the value of the own slot is
+  pub seated_hold : (x : Hold V) (used' : ℕ) (me' : Sat V) → me'.0.hands ≡ record (hand me.0) { hold = x } ∷ [] → me'.0.seen ≡ me.0.seen → me'.1 ≡ carried_of (hand me.0).slot x → used' ≡ used_now m x → used' < 2 ^ 63
+      → IsSeated m caller slot linked used head me → IsSeated m caller slot linked used' head me'
+  seated_hold x used' me' hands seen carries is small o = let h : hand me'.0 ≡ record (hand me.0) { hold = x } = ap first_hand hands in record {
+    one = ap length hands;
+    caller_is = o.caller_is ∙ ap (λ (h : Hand V). h.who) (sym h);
+    slot_is = o.slot_is ∙ ap (λ (h : Hand V). h.slot) (sym h);
+    linked_is = o.linked_is ∙ ap (λ (h : Hand V). h.linked) (sym h);
+    used_is = is ∙ ap (λ (h : Hand V). used_now m h.hold) (sym h);
+    head_is = o.head_is ∙ ap head_of (sym seen);
+    slot_small = o.slot_small;
+    used_small = small;
+    link_small = subst (λ (l : List Node). before l (length l) ≤ 64) (sym seen) o.link_small;
+    few = subst (λ (l : List Node). length l ≤ 64) (sym seen) o.few;
+    fewer = λ e. subst (λ (l : List Node). length l < 64) (sym seen) (o.fewer e);
+    carries = carries ∙ ap carried (sym h);
+  }
+
+  -- the exchange that takes the value of the own slot
+  pub take_step : (k : Founding V) (slots id word new : ℕ) (part : V) → IsSeated m caller slot linked used head me → linked ≡ true → (hand me.0).hold ≡ Rests part → word ≡ 80 + 8 * slot → new ≡ 2 * used
+      → Allows (Holds m k) slots id me word (λ _. new) (took m (step slots word new 0 none) me)
+  take_step k slots id word new part o is_linked there at is = subst (λ (w : ℕ). Allows (Holds m k) slots id me w (λ _. new) (took m (step slots w new 0 none) me)) (sym (at ∙ ap state_at o.slot_is))
+      (takes_slot m k slots id new me part o.one (sym o.linked_is ∙ is_linked) there (is ∙ ap (λ (u : ℕ). 2 * u) (o.used_is ∙ ap (used_now m) there)))
+
+  -- the load that takes a slot which isn't filled yet
+  pub claim_step : (k : Founding V) (slots id word : ℕ) → IsSeated m caller slot linked used head me → (hand me.0).hold ≡ Vacant → word ≡ 80 + 8 * slot
+      → Allows (Holds m k) slots id me word (λ n. n) (claimed (step slots word 0 0 none) me)
+  claim_step k slots id word o there at = subst (λ (w : ℕ). Allows (Holds m k) slots id me w (λ n. n) (claimed (step slots w 0 0 none) me)) (sym (at ∙ ap state_at o.slot_is)) (claims m k slots id me o.one there)
+
+  -- a seat whose slot is out carries the emptied slot
+  pub carries_none : IsSeated m caller slot linked used head me → IsOut (hand me.0).hold → me.1 ≡ (slot, None) ∷ []
+  carries_none o out = o.carries ∙ out_carries (hand me.0).slot (hand me.0).hold out ∙ ap (λ (s : ℕ). (s, None) ∷ []) (sym o.slot_is)
+
+  -- the store that gives the value
+  pub give_step : (k : Founding V) (slots id word new : ℕ) (me' : Sat V) (part : V) → IsSeated m caller slot linked used head me → me' ≡ (me.0, (slot, Some part) ∷ []) → used_now m (hand me.0).hold ≤ m.used part → Fits m k.life (hand me.0).who part
+      → word ≡ 80 + 8 * slot → new ≡ 2 * m.used part + 1 → Allows (Holds m k) slots id me' word (λ _. new) (λ _. gave m (step slots word new 0 none) me' new)
+  give_step k slots id word new me' part o after more fits at is = subst (λ (z : ℕ × Sat V). Allows (Holds m k) slots id z.1 z.0 (λ _. new) (λ _. gave m (step slots z.0 new 0 none) z.1 new)) (λ i. (sym (at ∙ ap state_at o.slot_is) i, sym after i))
+      (gives_slot m k slots id new (me.0, (slot, Some part) ∷ []) part [] o.one (ap (λ (s : ℕ). (s, Some part) ∷ []) o.slot_is) more fits is)
+
+  -- after a load of a state
+  pub seated_sized : (i used' : ℕ) (me' : Sat V) → me' ≡ (sized me.0 i used', me.1) → IsSeated m caller slot linked used head me → IsSeated m caller slot linked used head me'
+  seated_sized i used' me' is o = let seen : me'.0.seen ≡ me.0.seen = ap (λ (x : Sat V). x.0.seen) is in seated_as head me' (ap (λ (x : Sat V). x.0.hands) is) (ap (λ (x : Sat V). x.1) is) (o.head_is ∙ ap head_of (sym seen))
+      (subst (λ (l : List Node). before l (length l) ≤ 64) (sym seen) o.link_small) (subst (λ (l : List Node). length l ≤ 64) (sym seen) o.few) (λ e. subst (λ (l : List Node). length l < 64) (sym seen) (o.fewer e)) o
+
+  -- the load of a state
+  pub size_step : (k : Founding V) (slots id word i : ℕ) → IsSeated m caller slot linked used head me → i < 64 → word ≡ 80 + 8 * i → Allows (Holds m k) slots id me word (λ n. n) (saw_size m (step slots word 0 0 none) me)
+  size_step k slots id word i o low at = subst (λ (w : ℕ). Allows (Holds m k) slots id me w (λ n. n) (saw_size m (step slots w 0 0 none) me)) (sym at) (sizes_up m k slots id i me o.one low)

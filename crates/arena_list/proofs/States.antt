@@ -1,0 +1,217 @@
+-- The steps on the state of a slot keep the rule: a value is taken, given or claimed, and a used sum is read.
+use Rattle.std.proofs.Common.{◌≡◌, ℕ, ◌+◌, ◌*◌, ◌/◌, ◌<◌, ◌≤◌, ◌≢◌, Bool, true, false, eqb, List, ◌∷◌, length, get_or, set, sym, refl, ap, subst, cond, ◌∙◌, inl, arith, Option, Some, None, length-set, eq-eqb, ne_eqb}
+use Rattle.std.specs.Prelude.{slice_index}
+use Rattle.std.proofs.lemmas.List.{set-get_or, get_or-set_same, get_or-set_other}
+use mathlib.Core.Option.{some, none}
+use mathlib.Core.Logic.{dite}
+use native.Mathlib.Decide.{ℕ_discrete}
+use lib.ListN.{get_elem?}
+use Rattle.atomic_table.specs.Table.{State, step, keeps, takes, gives, stepped, Allows}
+use Rattle.atomic_table.specs.Table.{rest as rest_of_slots}
+use Rattle.atomic_table.proofs.Lists.{set_else, set_here}
+use Rattle.arena_list.specs.declared.founding.Founding.{Founding}
+use Rattle.arena_list.specs.declared.view.Node.{Node}
+use Rattle.arena_list.specs.declared.view.Hold.{Hold}
+use Rattle.arena_list.specs.declared.view.Hold.TheVariants.{Vacant, Filling, Away, Rests}
+use Rattle.arena_list.specs.declared.view.Hand.{Hand}
+use Rattle.arena_list.specs.declared.view.View.{View}
+use Rattle.arena_list.specs.Nodes.{Begins}
+use Rattle.arena_list.specs.Core.{Core, Standing, core, rests, away}
+use Rattle.arena_list.specs.Words.{Show, node_at, state_at, state_word, bit}
+use Rattle.arena_list.specs.Views.{hand}
+use Rattle.arena_list.specs.Founded.{Meter, Fits}
+use Rattle.arena_list.specs.Rule.{Holds, HoldsAt, IsHand, Knows}
+use Rattle.arena_list.specs.Steps.{Sat, held, settled, sized, used_now, took, claimed, gave, saw_size}
+use Rattle.arena_list.proofs.Lists.{begins_itself}
+use Rattle.arena_list.proofs.Moved.{Homes, Moves, moved}
+use Rattle.arena_list.proofs.Keeps.{hands_are, own_hand, reviewed, loaded}
+
+-- a function with another value at one number
+upd : {A : Type 0} → (ℕ → A) → ℕ → A → ℕ → A
+upd f k a j = cond (eqb j k) a (f j)
+
+upd_here : {A : Type 0} (f : ℕ → A) (k j : ℕ) (a : A) → j ≡ k → upd f k a j ≡ a
+unfolding upd
+upd_here f k j a e = ap (λ (b : Bool). cond b a (f j)) (eq-eqb j k e)
+
+upd_else : {A : Type 0} (f : ℕ → A) (k j : ℕ) (a : A) → j ≢ k → upd f k a j ≡ f j
+unfolding upd
+upd_else f k j a ne = ap (λ (b : Bool). cond b a (f j)) (ne_eqb j k ne)
+
+rests_one : {V : Type 0} (x y : V) → (◌≡◌ {A = Hold V} (Rests x) (Rests y)) → x ≡ y
+rests_one x y e = cc
+
+module _ {V : Type 0} (m : Meter V) (k : Founding V) where
+  abbrev St : Type 0
+  St = State (Option V) (View V)
+
+  module _ (s : St) (r : Holds m k s) (id : ℕ) (v : View V) (at : get_elem? s.views id ≡ some v) (alone : length v.hands ≡ 1) where
+    abbrev h : Hand V
+    h = hand v
+
+    own : IsHand m k.life r.core s.words s.homes r.holder r.place id 0 h
+    own = (own_hand m k s r id v at alone).1
+
+    wide : state_at h.slot < length s.words
+    wide = let a = r.show.wide in let b = own.slot in omega arith
+
+    -- the core after a step on the state of the own slot
+    after : Standing → Core
+    after x = core r.core.joined (upd r.core.standing h.slot x)
+
+    state_shows : (x : Standing) (new : ℕ) → new ≡ state_word x → Show (after x) (set s.words (state_at h.slot) new)
+    unfolding after
+    state_shows x new is = record {
+      wide = length-set s.words (state_at h.slot) new ∙ r.show.wide;
+      head = get_or-set_other s.words (state_at h.slot) 0 new 0 (λ t. omega arith) ∙ r.show.head;
+      nodes = λ i n e. let small = (r.listed i n e).slot in get_or-set_other s.words (state_at h.slot) (node_at n.slot) new 0 (λ t. omega arith) ∙ r.show.nodes i n e;
+      states = λ slot low. dite (ℕ_discrete slot h.slot)
+          (λ e. ap (λ (z : ℕ). get_or (set s.words (state_at h.slot) new) (state_at z) 0) e ∙ get_or-set_same s.words (state_at h.slot) new 0 wide ∙ is ∙ ap state_word (sym (upd_here r.core.standing h.slot slot x e)))
+          (λ ne. get_or-set_other s.words (state_at h.slot) (state_at slot) new 0 (λ t. ne (omega arith)) ∙ r.show.states slot low ∙ ap state_word (sym (upd_else r.core.standing h.slot slot x ne)));
+    }
+
+    restated : (x : Standing) (new : ℕ) (hs : Homes V) → new ≡ state_word x → (r.core.standing h.slot).used ≤ x.used → length hs ≡ 64 → ((slot : ℕ) → slot ≢ h.slot → get_elem? hs slot ≡ get_elem? s.homes slot)
+        → Moves r.core r.holder s.words s.homes h (after x) (set s.words (state_at h.slot) new) hs
+    unfolding after
+    restated x new hs is more slots same = record {
+      grows = begins_itself r.core.joined;
+      adds = λ i n e. inl e;
+      callers = r.callers;
+      standing = λ slot ne. upd_else r.core.standing h.slot slot x ne;
+      used = subst (λ (y : Standing). (r.core.standing h.slot).used ≤ y.used) (sym (upd_here r.core.standing h.slot h.slot x refl)) more;
+      nodes = λ slot low ne. get_or-set_other s.words (state_at h.slot) (node_at slot) new 0 (λ t. omega arith);
+      homes_same = same;
+      show = state_shows x new is;
+      slots = slots;
+    }
+
+    standing_after : (x : Standing) → (after x).standing h.slot ≡ x
+    unfolding after
+    standing_after x = upd_here r.core.standing h.slot h.slot x refl
+
+    joined_after : (x : Standing) → (after x).joined ≡ r.core.joined
+    unfolding after
+    joined_after x = refl
+
+    -- the own hand with another hold, under the core after the step
+    rehold : (x : Standing) (new : ℕ) (hs : Homes V) (hold : Hold V) → HoldsAt m k.life (after x) hs (record h { hold = hold }) hold
+        → IsHand m k.life (after x) (set s.words (state_at h.slot) new) hs r.holder r.place id 0 (record h { hold = hold })
+    unfolding after
+    rehold x new hs hold is = record {
+      here = own.here;
+      slot = own.slot;
+      held = own.held;
+      linked = own.linked;
+      spare = own.spare;
+      noted = λ p e. let small = own.slot in get_or-set_other s.words (state_at h.slot) (node_at h.slot) new 0 (λ t. omega arith) ∙ own.noted p e;
+      hold = is;
+    }
+
+    -- what the seat saw stays at most what is shown
+    knows_after : (x : Standing) (w : View V) → (r.core.standing h.slot).used ≤ x.used → w.seen ≡ v.seen → length w.sizes ≡ 64 → ((slot : ℕ) → slot ≢ h.slot → slice_index w.sizes slot ≡ slice_index v.sizes slot) → slice_index w.sizes h.slot ≤ x.used → Knows (after x) w
+    unfolding after
+    knows_after x w more seen room others here = let knows = r.known id v at in record {
+      seen = subst (λ (l : List Node). Begins l r.core.joined) (sym seen) knows.seen;
+      room = room;
+      sizes = λ slot. dite (ℕ_discrete slot h.slot)
+          (λ e. subst (λ (y : Standing). slice_index w.sizes slot ≤ y.used) (sym (upd_here r.core.standing h.slot slot x e)) (subst (λ (z : ℕ). slice_index w.sizes z ≤ x.used) (sym e) here))
+          (λ ne. subst (λ (y : Standing). slice_index w.sizes slot ≤ y.used) (sym (upd_else r.core.standing h.slot slot x ne)) (let a = knows.sizes slot in let b = others slot ne in omega arith));
+    }
+
+    -- the used sum that the own slot shows
+    shows_used : (hold : Hold V) → HoldsAt m k.life r.core s.homes h hold → (r.core.standing h.slot).used ≡ used_now m hold
+    shows_used Vacant x = ap (λ (y : Standing). y.used) x.0
+    shows_used Filling x = ap (λ (y : Standing). y.used) x
+    shows_used (Away used) x = ap (λ (y : Standing). y.used) x.0
+    shows_used (Rests part) x = ap (λ (y : Standing). y.used) x.0
+
+  pub takes_slot : (slots id new : ℕ) (me : Sat V) (part : V) → length me.0.hands ≡ 1 → (hand me.0).linked ≡ true → (hand me.0).hold ≡ Rests part → new ≡ 2 * m.used part
+      → Allows (Holds m k) slots id me (state_at (hand me.0).slot) (λ _. new) (took m (step slots (state_at (hand me.0).slot) new 0 none) me)
+  unfolding after
+  takes_slot slots id new me part alone linked rests_there is s r _ at _ = let v = me.0 in let h = hand v in let o = own s r id v at alone in let hold = subst (λ (x : Hold V). HoldsAt m k.life r.core s.homes h x) rests_there o.hold in
+      let x = away (m.used part) in let w = held v (Away (m.used part)) in let hs = set s.homes h.slot none in let knows = r.known id v at in
+      let more : (r.core.standing h.slot).used ≤ m.used part = (let e = ap (λ (y : Standing). y.used) hold.0 in omega arith) in (
+        w,
+        takes h.slot (Some part),
+        hold.1,
+        moved m k s r id v w h (record h { hold = Away (m.used part) }) at (hands_are v.hands alone) refl refl refl refl (after s r id v at alone x) (set s.words (state_at h.slot) new) hs
+            (restated s r id v at alone x new hs (is ∙ (let z : 2 * m.used part ≡ 2 * m.used part + 0 = omega arith in z)) more (length-set s.homes h.slot none ∙ r.slots) (λ slot ne. set_else s.homes h.slot slot none ne))
+            (rehold s r id v at alone x new hs (Away (m.used part)) (standing_after s r id v at alone x, linked))
+            (knows_after s r id v at alone x w more refl knows.room (λ slot ne. refl) (let a = knows.sizes h.slot in omega arith)),
+        λ other there. let same : part ≡ other = rests_one part other (sym rests_there ∙ there) in ap (λ (p : V). (held v (Away (m.used p)), (h.slot, Some p) ∷ me.1)) same,
+      )
+
+  pub claims : (slots id : ℕ) (me : Sat V) → length me.0.hands ≡ 1 → (hand me.0).hold ≡ Vacant
+      → Allows (Holds m k) slots id me (state_at (hand me.0).slot) (λ n. n) (claimed (step slots (state_at (hand me.0).slot) 0 0 none) me)
+  claims slots id me alone vacant s r _ at _ = let v = me.0 in let h = hand v in let o = own s r id v at alone in let hold = subst (λ (x : Hold V). HoldsAt m k.life r.core s.homes h x) vacant o.hold in
+      let w = held v Filling in let hs = set s.homes h.slot none in let knows = r.known id v at in (
+        w,
+        takes h.slot None,
+        hold.1,
+        subst (λ (ws : List ℕ). Holds m k record { words = ws; homes = hs; views = set s.views id w }) (sym (set-get_or s.words (state_at h.slot) 0))
+            (moved m k s r id v w h (record h { hold = Filling }) at (hands_are v.hands alone) refl refl refl refl r.core s.words hs
+            record {
+              grows = begins_itself r.core.joined;
+              adds = λ i n e. inl e;
+              callers = r.callers;
+              standing = λ slot ne. refl;
+              used = omega arith;
+              nodes = λ slot small ne. refl;
+              homes_same = λ slot ne. set_else s.homes h.slot slot none ne;
+              show = r.show;
+              slots = length-set s.homes h.slot none ∙ r.slots;
+            }
+            record { here = o.here; slot = o.slot; held = o.held; linked = o.linked; spare = o.spare; noted = o.noted; hold = hold.0 }
+            record { seen = knows.seen; room = knows.room; sizes = knows.sizes }),
+        refl,
+      )
+
+  pub gives_slot : (slots id new : ℕ) (me : Sat V) (part : V) (out : List (ℕ × Option V)) → length me.0.hands ≡ 1 → me.1 ≡ ((hand me.0).slot, Some part) ∷ out → used_now m (hand me.0).hold ≤ m.used part
+      → Fits m k.life (hand me.0).who part → new ≡ 2 * m.used part + 1
+      → Allows (Holds m k) slots id me (state_at (hand me.0).slot) (λ _. new) (λ _. gave m (step slots (state_at (hand me.0).slot) new 0 none) me new)
+  unfolding after
+  gives_slot slots id new me part out alone has more fits is s r _ at _ = let v = me.0 in let h = hand v in let o = own s r id v at alone in
+      let x = rests (m.used part) in let w = settled m v part in let hs = set s.homes h.slot (some (Some part)) in let knows = r.known id v at in
+      let used = shows_used s r id v at alone h.hold o.hold in let grown : (r.core.standing h.slot).used ≤ m.used part = omega arith in
+      let within : h.slot < length s.homes = (let a = r.slots in let b = o.slot in omega arith) in
+      let room : h.slot < length v.sizes = (let a = knows.room in let b = o.slot in omega arith) in (
+        w,
+        gives,
+        tt,
+        subst (λ (c : List (ℕ × Option V)). Holds m k (stepped s (state_at h.slot) new id c w gives)) (sym has)
+            (moved m k s r id v w h (record h { hold = Rests part }) at (hands_are v.hands alone) refl refl refl refl (after s r id v at alone x) (set s.words (state_at h.slot) new) hs
+            (restated s r id v at alone x new hs is grown (length-set s.homes h.slot (some (Some part)) ∙ r.slots) (λ slot ne. set_else s.homes h.slot slot (some (Some part)) ne))
+            (rehold s r id v at alone x new hs (Rests part) (standing_after s r id v at alone x, set_here s.homes h.slot (some (Some part)) within, fits))
+            (knows_after s r id v at alone x w grown refl (length-set v.sizes h.slot (m.used part) ∙ knows.room) (λ slot ne. get_or-set_other v.sizes h.slot slot (m.used part) 0 ne)
+            (let e = get_or-set_same v.sizes h.slot (m.used part) 0 room in omega arith))),
+        λ other rest there. let same : ((h.slot, Some part) ∷ out) ≡ ((h.slot, Some other) ∷ rest) = sym has ∙ there in let heads : ◌≡◌ {A = ℕ × Option V} (h.slot, Some part) (h.slot, Some other) = cc in let inner : Some part ≡ Some other = ap (λ (z : ℕ × Option V). z.1) heads in let p : part ≡ other = cc in let q : out ≡ rest = cc in
+            subst (λ (c : List (ℕ × Option V)). ◌≡◌ {A = Sat V} (w, rest_of_slots c) (settled m v other, rest)) (sym has) (λ i. (settled m v (p i), q i)),
+      )
+
+  pub sizes_up : (slots id slot : ℕ) (me : Sat V) → length me.0.hands ≡ 1 → slot < 64
+      → Allows (Holds m k) slots id me (state_at slot) (λ n. n) (saw_size m (step slots (state_at slot) 0 0 none) me)
+  sizes_up slots id slot me alone low s r _ at _ = let v = me.0 in let h = hand v in let o = own s r id v at alone in let word : ℕ = get_or s.words (state_at slot) 0 in
+      let w = sized v slot (word / 2) in let knows = r.known id v at in let state = r.show.states slot low in let found : word / 2 ≡ (r.core.standing slot).used = half word (r.core.standing slot) state in
+      let room : slot < length v.sizes = (let a = knows.room in omega arith) in (
+        w,
+        keeps,
+        tt,
+        loaded m k s (state_at slot) id w (reviewed m k s r id v at alone w refl refl record {
+          seen = knows.seen;
+          room = length-set v.sizes slot (word / 2) ∙ knows.room;
+          sizes = λ j. dite (ℕ_discrete j slot)
+              (λ e. subst (λ (z : ℕ). slice_index (set v.sizes slot (word / 2)) z ≤ (r.core.standing z).used) (sym e) (let t = get_or-set_same v.sizes slot (word / 2) 0 room in omega arith))
+              (λ ne. let t = get_or-set_other v.sizes slot j (word / 2) 0 ne in let a = knows.sizes j in omega arith);
+        }),
+        λ other is. let same : slot ≡ other = omega arith in (
+          ap (λ (z : ℕ). (sized v z (word / 2), me.1)) same,
+          (let a = knows.sizes slot in subst (λ (z : ℕ). slice_index v.sizes z ≤ word / 2) same (omega arith)),
+          subst (λ (z : ℕ). slice_index (set v.sizes z (word / 2)) z ≡ word / 2) same (get_or-set_same v.sizes slot (word / 2) 0 room),
+          λ mine. found ∙ ap (λ (z : ℕ). (r.core.standing z).used) (same ∙ mine) ∙ shows_used s r id v at alone h.hold o.hold,
+        ),
+      ) where
+        half : (n : ℕ) (x : Standing) → n ≡ state_word x → n / 2 ≡ x.used
+        half n x e = half_of n x.used x.home e where
+          half_of : (n u : ℕ) (b : Bool) → n ≡ 2 * u + bit b → n / 2 ≡ u
+          half_of n u true e = omega arith
+          half_of n u false e = omega arith

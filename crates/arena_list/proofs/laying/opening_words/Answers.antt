@@ -1,0 +1,6 @@
+use Rattle.std.proofs.Common.{refl}
+use Rattle.arena_list.proofs.Joining.{zeros}
+use Rattle.arena_list.proofs.laying.opening_words.Goals as goal
+
+pub lay-requires-clause-zeros : goal.lay-requires-clause-zeros
+lay-requires-clause-zeros g c = (refl, zeros 592)

@@ -1,0 +1,7 @@
+use Rattle.std.proofs.Common.{rules}
+use Rattle.arena_list.specs.Founded.{meter}
+use Rattle.arena_list.proofs.Keeps.{reads}
+use Rattle.arena_list.proofs.list.ArenaList.read_node.Goals as goal
+
+pub load-requires : goal.load-requires
+load-requires g c = (search rules, search rules, reads (meter g.V.Part.owner_of g.V.Part.life_of g.V.Part.used_of) _ _ _ _ _ c.args.seat.now.seated.one)

@@ -1,0 +1,86 @@
+-- What each call of a list makes of its seat's view.
+use Rattle.std.specs.Prelude.{◌≡◌, ◌≢◌, ℕ, ◌+◌, ◌*◌, ◌^◌, ◌≤◌, List, [], ◌∷◌, ◌++◌, Option, Some, IfSome, IfNone, length, drop, slice_index}
+use mathlib.Core.Option.{some}
+use lib.ListN.{get_elem?}
+use Rattle.arena_list.specs.declared.view.Node.{Node}
+use Rattle.arena_list.specs.declared.view.View.{View}
+use Rattle.arena_list.specs.Nodes.{node, before, Begins, HasNode}
+use Rattle.arena_list.specs.Views.{hand, who, mine, spare, out, shown, sum_seen}
+use Rattle.arena_list.specs.Founded.{Meter}
+use Rattle.arena_list.specs.Steps.{used_now}
+
+-- no node of the caller stands in the list
+abbrev pub Lacks : List Node → ℕ → Type 0
+Lacks nodes who = (k : ℕ) (n : Node) → get_elem? nodes k ≡ some n → n.caller ≢ who
+
+module _ {V : Type 0} where
+  -- `find` looked once at the list, which is what the seat has seen of it from then on, and walked it
+  pub record HasFound (v w : View V) (answer : Option ℕ) : Type 0 where
+    -- None exactly where no node of the caller stood in the list
+    pub found : IfSome answer (λ slot. HasNode w.seen slot (who w))
+    pub none : IfNone answer (Lacks w.seen (who w))
+    pub mine_is : answer ≡ mine w
+    -- one step for the look, and at most one for each node
+    pub some_step : v.list_steps + 1 ≤ w.list_steps
+    pub steps : w.list_steps ≤ v.list_steps + 1 + length w.seen
+    pub seen : Begins v.seen w.seen
+    pub hands : w.hands ≡ v.hands
+    pub sizes : w.sizes ≡ v.sizes
+    pub base : w.base ≡ v.base
+
+  -- after exchanges that failed: each showed a longer list, for two steps
+  pub record HasTried (v w : View V) : Type 0 where
+    pub who_is : who w ≡ who v
+    pub slot : (hand w).slot ≡ (hand v).slot
+    pub linked : (hand w).linked ≡ (hand v).linked
+    pub hold : out w ≡ out v
+    pub steps : w.list_steps + 2 * length v.seen ≤ v.list_steps + 2 * length w.seen
+    pub seen : Begins v.seen w.seen
+    pub sizes : w.sizes ≡ v.sizes
+    pub base : w.base ≡ v.base
+
+  -- `join` appended the caller's one node to the list, which is what the seat has seen of it from then on
+  pub record HasJoined (v w : View V) (slot : ℕ) : Type 0 where
+    pub was_spare : spare v ≡ Some slot
+    pub mine_is : mine w ≡ Some slot
+    pub appended : (nodes : List Node) × Begins v.seen nodes × (w.seen ≡ nodes ++ node slot (who v) ∷ [])
+    -- two steps for each exchange, of which each that failed showed a longer list
+    pub steps : w.list_steps + 2 * length v.seen ≤ v.list_steps + 2 * length w.seen
+    pub few : length w.seen ≤ 64
+    pub who_is : who w ≡ who v
+    pub hold : out w ≡ out v
+    pub sizes : w.sizes ≡ v.sizes
+    pub base : w.base ≡ v.base
+
+  -- a walk over the list as it was looked at, from the newest node on: `left` nodes are to come
+  pub record IsWalking (v w : View V) (left link : ℕ) : Type 0 where
+    pub same : w ≡ record v { list_steps = w.list_steps }
+    pub steps : w.list_steps + left ≡ v.list_steps + length v.seen
+    pub link_is : link ≡ before v.seen left
+    pub within : left ≤ length v.seen
+    pub past : (k : ℕ) (n : Node) → left ≤ k → get_elem? v.seen k ≡ some n → n.caller ≢ who v
+
+module _ {V : Type 0} where
+  -- a walk that adds up what the states show: `left` nodes are to come
+  pub record IsSumming (m : Meter V) (v w : View V) (left link sum : ℕ) : Type 0 where
+    pub same : w ≡ record v { list_steps = w.list_steps; sizes = w.sizes }
+    pub steps : w.list_steps + left ≡ v.list_steps + length v.seen
+    pub link_is : link ≡ before v.seen left
+    pub within : left ≤ length v.seen
+    pub sum_is : sum ≡ sum_seen w.sizes (drop left v.seen)
+    pub small : sum + left * 2 ^ 63 ≤ length v.seen * 2 ^ 63
+    pub grown : (slot : ℕ) → slice_index v.sizes slot ≤ slice_index w.sizes slot
+    pub own : (k : ℕ) (n : Node) → left ≤ k → get_elem? v.seen k ≡ some n → n.slot ≡ (hand v).slot → slice_index w.sizes n.slot ≡ used_now m (out v)
+
+  -- `sizes` looked once at the list, walked it, and added up what the state of each node showed
+  pub record HasSummed (m : Meter V) (v w : View V) (answer : ℕ) : Type 0 where
+    pub sum_is : answer ≡ shown w
+    -- at least the caller's own part
+    pub own : (slot : ℕ) → mine w ≡ Some slot → used_now m (out w) ≤ answer
+    -- at least each earlier answer, since what a seat was shown never falls
+    pub earlier : shown v ≤ answer
+    pub grown : (slot : ℕ) → slice_index v.sizes slot ≤ slice_index w.sizes slot
+    pub steps : w.list_steps ≡ v.list_steps + 1 + length w.seen
+    pub seen : Begins v.seen w.seen
+    pub hands : w.hands ≡ v.hands
+    pub base : w.base ≡ v.base

@@ -1,0 +1,10 @@
+pub mod Nodes
+pub mod Views
+pub mod Words
+pub mod Founded
+pub mod Core
+pub mod Rule
+pub mod Steps
+pub mod Calls
+pub mod Seats
+pub mod Made

@@ -1,0 +1,156 @@
+-- What each kind of step on a word of the list tells its seat.
+use Rattle.std.specs.Prelude.{◌≡◌, ◌≢◌, ℕ, ◌+◌, ◌/◌, ◌^◌, ◌<◌, ◌≤◌, Bool, true, false, List, [], ◌∷◌, ◌++◌, Option, Some, None, length, max, set, slice_index, replicate, nat_lt, if◌then◌else◌}
+use mathlib.Core.Option.{some}
+use lib.ListN.{get_elem?}
+use Rattle.atomic_table.specs.Table.{Me, Step}
+use Rattle.arena_list.specs.declared.view.Node.{Node}
+use Rattle.arena_list.specs.declared.view.Hold.{Hold}
+use Rattle.arena_list.specs.declared.view.Hold.TheVariants.{Vacant, Filling, Away, Rests}
+use Rattle.arena_list.specs.declared.view.Hand.{Hand}
+use Rattle.arena_list.specs.declared.view.View.{View}
+use Rattle.arena_list.specs.Nodes.{node, before, head_of, node_word, Begins, HasNode}
+use Rattle.arena_list.specs.Core.{CallersDiffer}
+use Rattle.arena_list.specs.Words.{node_at, state_at}
+use Rattle.arena_list.specs.Views.{hand}
+use Rattle.arena_list.specs.Founded.{Meter}
+
+-- the list as it stood at a look, beside the hand that looked: the caller's slot is in it exactly where it is linked
+pub record Sees {V : Type 0} (h : Hand V) (nodes : List Node) : Type 0 where
+  pub linked : h.linked ≡ true → HasNode nodes h.slot h.who
+  pub spare : h.linked ≡ false → (k : ℕ) (n : Node) → get_elem? nodes k ≡ some n → n.caller ≢ h.who
+  pub callers : CallersDiffer nodes
+  pub slots : (i j : ℕ) (n o : Node) → get_elem? nodes i ≡ some n → get_elem? nodes j ≡ some o → n.slot ≡ o.slot → i ≡ j
+  pub small : (k : ℕ) (n : Node) → get_elem? nodes k ≡ some n → n.slot < 64
+  pub few : length nodes ≤ 64
+  pub fewer : h.linked ≡ false → length nodes < 64
+
+-- a seat: its view, and the slots that it holds
+abbrev pub Sat : Type 0 → Type 0
+Sat V = Me (Option V) (View V)
+
+-- the greater of both at each number
+abbrev pub greater : List ℕ → List ℕ → List ℕ
+greater [] ys = []
+greater (x ∷ xs) [] = []
+greater (x ∷ xs) (y ∷ ys) = max x y ∷ greater xs ys
+
+-- the longer of two lists of which one begins the other
+abbrev pub longer : List Node → List Node → List Node
+longer xs ys = if nat_lt (length xs) (length ys) then ys else xs
+
+-- ---- the view after a step
+module _ {V : Type 0} where
+  abbrev pub counted : View V → View V
+  counted v = record v { list_steps = v.list_steps + 1 }
+
+  abbrev pub looked : View V → List Node → View V
+  looked v nodes = record v { seen = nodes; list_steps = v.list_steps + 1 }
+
+  abbrev pub with_hand : View V → Hand V → View V
+  with_hand v h = record v { hands = h ∷ [] }
+
+  abbrev pub own_node : View V → Node
+  own_node v = node (hand v).slot (hand v).who
+
+  -- the previous part that the next node gets
+  abbrev pub next_link : View V → ℕ
+  next_link v = before v.seen (length v.seen)
+
+  abbrev pub noted : View V → View V
+  noted v = record v { hands = record (hand v) { noted = Some (next_link v) } ∷ []; list_steps = v.list_steps + 1 }
+
+  abbrev pub joined : View V → View V
+  joined v = record v { hands = record (hand v) { linked = true; noted = None } ∷ []; seen = v.seen ++ own_node v ∷ []; list_steps = v.list_steps + 1 }
+
+  abbrev pub held : View V → Hold V → View V
+  held v x = with_hand v (record (hand v) { hold = x })
+
+  -- the value given, and its used sum among those seen
+  abbrev pub settled : Meter V → View V → V → View V
+  settled m v part = record v { hands = record (hand v) { hold = Rests part } ∷ []; sizes = set v.sizes (hand v).slot (m.used part) }
+
+  abbrev pub sized : View V → ℕ → ℕ → View V
+  sized v slot used = record v { sizes = set v.sizes slot used }
+
+  -- the used sum that the caller's own slot shows
+  abbrev pub used_now : Meter V → Hold V → ℕ
+  used_now m Vacant = 0
+  used_now m Filling = 0
+  used_now m (Away used) = used
+  used_now m (Rests part) = m.used part
+
+  -- the slot is out with the seat
+  abbrev pub IsOut : Hold V → Type 0
+  IsOut Vacant = ⊥
+  IsOut Filling = Unit {0}
+  IsOut (Away used) = Unit {0}
+  IsOut (Rests part) = ⊥
+
+  -- what a seat carries beside its view: where its slot is out, the emptied slot
+  abbrev pub carried_of : ℕ → Hold V → List (ℕ × Option V)
+  carried_of slot Vacant = []
+  carried_of slot Filling = (slot, None) ∷ []
+  carried_of slot (Away used) = (slot, None) ∷ []
+  carried_of slot (Rests part) = []
+
+  abbrev pub carried : Hand V → List (ℕ × Option V)
+  carried h = carried_of h.slot h.hold
+
+  -- ---- what a step tells
+  abbrev pub saw_head : Step (Option V) → Sat V → ℕ → Sat V → Type 0
+  saw_head st me r me' = (me' ≡ (looked me.0 me'.0.seen, me.1)) × (r ≡ head_of me'.0.seen) × Begins me.0.seen me'.0.seen × Sees (hand me.0) me'.0.seen
+
+  abbrev pub saw_node : Step (Option V) → Sat V → ℕ → Sat V → Type 0
+  saw_node st me r me' = (me' ≡ (counted me.0, me.1)) × ((k : ℕ) (n : Node) → get_elem? me.0.seen k ≡ some n → st.word ≡ node_at n.slot → r ≡ node_word n.caller (before me.0.seen k))
+
+  abbrev pub stored_node : Step (Option V) → Sat V → ℕ → Sat V → Type 0
+  stored_node st me r me' = me' ≡ (noted me.0, me.1)
+
+  -- the exchange appended the caller's node, or else showed a longer list
+  abbrev pub tried_link : Step (Option V) → Sat V → ℕ → Sat V → Type 0
+  tried_link st me r me' = (r ≡ st.first → (me' ≡ (joined me.0, me.1)) × Sees (hand me'.0) me'.0.seen)
+      × (r ≢ st.first → saw_head st me r me' × (length me.0.seen < length me'.0.seen))
+
+  abbrev pub took : Meter V → Step (Option V) → Sat V → ℕ → Sat V → Type 0
+  took m st me r me' = (part : V) → (hand me.0).hold ≡ Rests part → me' ≡ (held me.0 (Away (m.used part)), ((hand me.0).slot, Some part) ∷ me.1)
+
+  abbrev pub claimed : Step (Option V) → Sat V → ℕ → Sat V → Type 0
+  claimed st me r me' = me' ≡ (held me.0 Filling, ((hand me.0).slot, None) ∷ me.1)
+
+  abbrev pub gave : Meter V → Step (Option V) → Sat V → ℕ → Sat V → Type 0
+  gave m st me r me' = (part : V) (out : List (ℕ × Option V)) → me.1 ≡ ((hand me.0).slot, Some part) ∷ out → me' ≡ (settled m me.0 part, out)
+
+  abbrev pub saw_size : Meter V → Step (Option V) → Sat V → ℕ → Sat V → Type 0
+  saw_size m st me r me' = (slot : ℕ) → st.word ≡ state_at slot → (me' ≡ (sized me.0 slot (r / 2), me.1)) × (slice_index me.0.sizes slot ≤ r / 2) × (slice_index (set me.0.sizes slot (r / 2)) slot ≡ r / 2) × (slot ≡ (hand me.0).slot → r / 2 ≡ used_now m (hand me.0).hold)
+
+  -- ---- cutting a view in two, and putting two together
+  abbrev pub dealt : View V → View V
+  dealt v = record v { hands = hand v ∷ []; list_steps = 0 }
+
+  abbrev pub rest_of : List (Hand V) → List (Hand V)
+  rest_of [] = []
+  rest_of (h ∷ hs) = hs
+
+  abbrev pub undealt : View V → View V
+  undealt v = record v { hands = rest_of v.hands }
+
+  abbrev pub both : View V → View V → View V
+  both v w = record { hands = v.hands ++ w.hands; seen = longer v.seen w.seen; list_steps = v.list_steps + w.list_steps; sizes = greater v.sizes w.sizes; base = v.base }
+
+  abbrev pub spent : View V
+  spent = record { hands = []; seen = []; list_steps = 0; sizes = replicate 64 0; base = record { callers = []; others = [] } }
+
+-- What a seat keeps beside its view is what its view says: of its one caller, of the caller's slot and its used sum, and of the head
+pub record IsSeated {V : Type 0} (m : Meter V) (caller slot : ℕ) (linked : Bool) (used head : ℕ) (me : Sat V) : Type 0 where
+  pub one : length me.0.hands ≡ 1
+  pub caller_is : caller ≡ (hand me.0).who
+  pub slot_is : slot ≡ (hand me.0).slot
+  pub linked_is : linked ≡ (hand me.0).linked
+  pub used_is : used ≡ used_now m (hand me.0).hold
+  pub head_is : head ≡ head_of me.0.seen
+  pub slot_small : slot < 64
+  pub used_small : used < 2 ^ 63
+  pub link_small : next_link me.0 ≤ 64
+  pub few : length me.0.seen ≤ 64
+  pub fewer : linked ≡ false → length me.0.seen < 64
+  pub carries : me.1 ≡ carried (hand me.0)

@@ -1,0 +1,25 @@
+//! The shared list of the parts of an arena, by single steps on atomic words.
+//!
+//! It stands between the parts, which each of several callers fills alone, and the arena that is shared by threads.
+//! Its contract, over every interleaving of steps: the list is one list that only grows, each caller has one slot in it
+//! or beside it, and a value is in its slot or out with the one seat whose slot it is. No call waits.
+#![tactic(auto)]
+
+mod entry;
+mod founding;
+mod laying;
+mod list;
+mod make;
+mod plays;
+mod sizes;
+mod slots;
+mod steps;
+mod told;
+mod view;
+mod walk;
+
+pub use entry::Entry;
+pub use founding::Founding;
+pub use list::{ArenaList, ListRule, ListSeat};
+pub use told::Told;
+pub use view::{Base, Hand, Hold, Node, View};

@@ -1,0 +1,51 @@
+//! A caller adds up what the list has used.
+ghost use Rattle.std.specs.Prelude.{◌≡◌, ◌^◌, ◌<◌, ◌≤◌, slice_index};
+ghost use Rattle.arena_list.specs.Founded.{meter};
+ghost use Rattle.arena_list.specs.Views.{hand, out};
+ghost use Rattle.arena_list.specs.Steps.{sized, used_now};
+ghost use Rattle.arena_list.specs.Calls.{HasSummed};
+ghost use Rattle.arena_list.specs.Seats.{view, IsSeatOf, SameList};
+
+use crate::list::{ArenaList, ListSeat};
+use crate::plays::ReadSize;
+use crate::steps::{SPAN, STATES, STRIDE};
+use arena_mem::Part;
+
+impl<V: Part> ArenaList<V> {
+    /// The sum of the used sums that the states of the list's slots show, each when it is read. It is at least the
+    /// caller's own part and each answer that this seat got before. It takes no memory, one list step for the look and
+    /// one for each node.
+    pub fn sizes(&self, seat: &mut ListSeat<V>) -> u128
+        requires { IsSeatOf self.now seat.old }
+        ensures list { SameList seat.old seat.new }
+        ensures summed { HasSummed (meter V.owner_of V.life_of V.used_of) (view seat.old) (view seat.new) result }
+    {
+        let head = self.look(seat);
+        let mut left = head / SPAN;
+        let mut link = head % SPAN;
+        let mut sum = 0;
+        while left > 0 {
+            let slot = link - 1;
+            let node = self.read_node(seat, slot);
+            sum += self.read_size(seat, slot) as u128;
+            link = node % SPAN;
+            left -= 1;
+        }
+        sum
+    }
+
+    /// Loads the state of a slot, and answers the used sum that it shows.
+    fn read_size(&self, seat: &mut ListSeat<V>, slot: u64) -> u64
+        requires list { IsSeatOf self.now seat.old }
+        requires slot { slot < 64 }
+        ensures list { SameList seat.old seat.new }
+        ensures view { view seat.new ≡ sized (view seat.old) slot result }
+        ensures more { slice_index (view seat.old).sizes slot ≤ result }
+        ensures here { slice_index (view seat.new).sizes slot ≡ result }
+        ensures own { slot ≡ (hand (view seat.old)).slot → result ≡ used_now (meter V.owner_of V.life_of V.used_of) (out (view seat.old)) }
+        ensures small { result < 2 ^ 63 }
+    {
+        let state = STATES + slot as usize * STRIDE;
+        self.table.shared.load::<ReadSize>(&mut seat.seat, state) / 2
+    }
+}

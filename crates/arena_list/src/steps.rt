@@ -1,0 +1,76 @@
+//! The single steps on the words of a list, each with what it tells.
+ghost use Rattle.std.specs.Prelude.{◌≡◌, ℕ, ◌+◌, ◌<◌, ◌≤◌, ◌++◌, ◌∷◌, [], Bool, true, false, Some, None, length, IsTrue};
+ghost use mathlib.Core.Option.{some};
+ghost use lib.ListN.{get_elem?};
+ghost use Rattle.arena_list.specs.Nodes.{before, head_of, node_word, Begins};
+ghost use Rattle.arena_list.specs.Views.{hand};
+ghost use Rattle.arena_list.specs.Steps.{Sees, counted, looked, noted, joined};
+ghost use Rattle.arena_list.specs.Seats.{view, IsSeatOf, SameList};
+
+use crate::list::{ArenaList, ListSeat};
+use crate::plays::{Link, Look, ReadNode, StoreNode};
+use arena_mem::Part;
+
+/// The word of the head.
+pub(crate) const HEAD: usize = 0;
+
+/// The word of the node of slot 0; the nodes of the slots lie side by side.
+pub(crate) const NODES: usize = 8;
+
+/// The word of the state of slot 0.
+pub(crate) const STATES: usize = 80;
+
+/// How many words lie between the states of two slots, so that no two of them share a line of 64 bytes.
+pub(crate) const STRIDE: usize = 8;
+
+/// What a word counts in its upper half.
+pub(crate) const SPAN: u64 = 1 << 32;
+
+impl<V: Part> ArenaList<V> {
+    /// Loads the head, and answers it.
+    pub(crate) fn look(&self, seat: &mut ListSeat<V>) -> u64
+        requires { IsSeatOf self.now seat.old }
+        ensures list { SameList seat.old seat.new }
+        ensures view { view seat.new ≡ looked (view seat.old) (view seat.new).seen }
+        ensures seen { Begins (view seat.old).seen (view seat.new).seen × Sees (hand (view seat.old)) (view seat.new).seen }
+        ensures head { result ≡ head_of (view seat.new).seen }
+    {
+        seat.head = self.table.shared.load::<Look>(&mut seat.seat, HEAD);
+        seat.head
+    }
+
+    /// Loads the node of a slot, and answers it.
+    pub(crate) fn read_node(&self, seat: &mut ListSeat<V>, slot: u64) -> u64
+        requires list { IsSeatOf self.now seat.old }
+        requires slot { slot < 64 }
+        ensures list { SameList seat.old seat.new }
+        ensures view { view seat.new ≡ counted (view seat.old) }
+        ensures node { (k : ℕ) (n : _) → get_elem? (view seat.old).seen k ≡ some n → slot ≡ n.slot → result ≡ node_word n.caller (before (view seat.old).seen k) }
+    {
+        let word = NODES + slot as usize;
+        self.table.shared.load::<ReadNode>(&mut seat.seat, word)
+    }
+
+    /// Tries to link the caller's spare behind the list as the seat has seen it. It does not where the list is longer.
+    pub(crate) fn try_link(&self, seat: &mut ListSeat<V>) -> bool
+        requires list { IsSeatOf self.now seat.old }
+        requires spare { (hand (view seat.old)).linked ≡ false }
+        ensures list { SameList seat.old seat.new }
+        ensures linked { IsTrue result → view seat.new ≡ joined (noted (view seat.old)) }
+        ensures longer { result ≡ false → (view seat.new ≡ looked (noted (view seat.old)) (view seat.new).seen) × Begins (view seat.old).seen (view seat.new).seen × (length (view seat.old).seen < length (view seat.new).seen) }
+    {
+        let words = &self.table.shared;
+        let link = seat.head % SPAN;
+        let node = seat.caller as u64 * SPAN + link;
+        let head = (seat.head / SPAN + 1) * SPAN + seat.slot as u64 + 1;
+        words.store::<StoreNode>(&mut seat.seat, NODES + seat.slot as usize, node);
+        let found = words.compare_exchange::<Link>(&mut seat.seat, HEAD, seat.head, head);
+        if found == seat.head {
+            seat.linked = true;
+            seat.head = head;
+            return true;
+        }
+        seat.head = found;
+        false
+    }
+}

@@ -1,0 +1,48 @@
+//! What a seat knows. No value of these types but `Node` is ever made: they exist for the proofs.
+use crate::entry::Entry;
+use std::collections::LinkedList;
+
+/// A node of the list: a slot, and the caller whose slot it is.
+pub struct Node {
+    pub slot: u32,
+    pub caller: u32,
+}
+
+/// Where the value of a caller's slot is.
+pub enum Hold<V> {
+    /// In the hand of `make`: the slot isn't filled yet.
+    Vacant,
+    /// With the seat, which is about to fill the slot for the first time.
+    Filling,
+    /// With the seat, and had this used sum when it was taken.
+    Away { used: u64 },
+    /// At home in the slot.
+    Rests { part: V },
+}
+
+/// What is known of one caller.
+pub struct Hand<V> {
+    pub who: u32,
+    pub slot: u32,
+    /// Whether the slot is in the list; else it is the caller's spare.
+    pub linked: bool,
+    /// What was last stored in the node of a spare, where anything was.
+    pub noted: Option<u64>,
+    pub hold: Hold<V>,
+}
+
+/// What the list was made with: the callers that have seats, and the linked entries of the others.
+pub struct Base<V> {
+    pub callers: LinkedList<u32>,
+    pub others: LinkedList<Entry<V>>,
+}
+
+/// What a seat knows: of its callers, which are several inside `make` and `close` alone, of the list, oldest node
+/// first, and by slot the used sums that it saw.
+pub struct View<V> {
+    pub hands: LinkedList<Hand<V>>,
+    pub seen: LinkedList<Node>,
+    pub list_steps: u64,
+    pub sizes: LinkedList<u64>,
+    pub base: Base<V>,
+}
