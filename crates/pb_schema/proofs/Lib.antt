@@ -13,4 +13,6 @@ pub mod FaultLaws
 mod Rows
 mod Examples
 mod TreeExamples
+mod KindExamples
+mod FittedExamples
 pub mod TickLaws
