@@ -10,9 +10,13 @@ pub mod RecordsFound
 pub mod RecordsFront
 pub mod MergeLaws
 pub mod FaultLaws
+pub mod SoundRecords
+pub mod Gathering
+pub mod FittedLaws
 mod Rows
 mod Examples
 mod TreeExamples
 mod KindExamples
 mod FittedExamples
+mod LawfulExamples
 pub mod TickLaws

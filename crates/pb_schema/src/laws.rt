@@ -6,9 +6,11 @@ ghost use Rattle.pb_schema.specs.Varint.{Varint, varint_at, length_bytes, value_
 ghost use Rattle.pb_schema.specs.Frames.{Frames, frames_of};
 ghost use Rattle.pb_schema.specs.Records.{Record, Records, RecordsWithin, records_of, records_within};
 ghost use Rattle.pb_schema.specs.Tree.{Tree};
+ghost use Rattle.pb_schema.specs.Fits.{Message, contents_of, fields_of};
 ghost use Rattle.pb_schema.specs.Fault.{fault_of, most_levels};
 ghost use Rattle.pb_schema.specs.TreeOf.{tree_of};
 ghost use Rattle.pb_schema.specs.Fitted.{Fitted};
+ghost use Rattle.pb_schema.specs.Lawful.{Lawful};
 ghost use Rattle.pb_schema.specs.Empty.{empty};
 ghost use Rattle.pb_schema.specs.Merge.{merge_of};
 ghost use Rattle.pb_schema.specs.Text.{framed};
@@ -42,10 +44,22 @@ pub fn one_list_of_records()
     ensures within { (levels : ℕ) (s : List ℕ) (rs : List Record) → (records_within levels s ≡ Some rs) ↔ RecordsWithin levels s rs }
 {}
 
-/// A payload has a tree exactly where it has no fault, and then it is cut into records, from which the tree is gathered.
+/// At the root a payload has a tree exactly where it has no fault. At each depth a payload without a fault is cut into
+/// records; each of them that a message field takes holds a payload that has no fault one level deeper, and is at most
+/// 100 levels below the root; and two payloads without a fault have none one behind the other. So wherever a tree
+/// gathers from the records of a payload, at the root or in a message at any level, there are records.
 pub fn a_tree_where_no_fault()
     ensures tree { (schema : Schema) (type_no : ℕ) (s : List ℕ) → IsSome (tree_of schema type_no s) ↔ (fault_of schema type_no 0 s ≡ None) }
-    ensures records { (schema : Schema) (type_no : ℕ) (s : List ℕ) → fault_of schema type_no 0 s ≡ None → (rs : List Record) × RecordsWithin most_levels s rs }
+    ensures records { (schema : Schema) (type_no depth : ℕ) (s : List ℕ) → fault_of schema type_no depth s ≡ None → (rs : List Record) × RecordsWithin (most_levels - depth) s rs }
+    ensures nested { (schema : Schema) (type_no depth : ℕ) (s : List ℕ) (rs : List Record) → fault_of schema type_no depth s ≡ None → RecordsWithin (most_levels - depth) s rs → All (λ r. (inner : ℕ) → contents_of (fields_of schema.types type_no) r.number r.wire ≡ Message inner → (depth < most_levels) × (fault_of schema inner (depth + 1) r.payload ≡ None)) rs }
+    ensures together { (schema : Schema) (type_no depth : ℕ) (s t : List ℕ) → fault_of schema type_no depth s ≡ None → fault_of schema type_no depth t ≡ None → fault_of schema type_no depth (s ++ t) ≡ None }
+{}
+
+/// A payload that has a tree at a type of a lawful schema has one that a message of that type may be: each value is of
+/// its field's kind, no field without presence holds its default, at most one member of a oneof is set, what fits no
+/// field is whole records, and messages nest at most 100 levels deep.
+pub fn decoded_trees_are_fitted()
+    ensures { (schema : Schema) (type_no : ℕ) (s : List ℕ) (t : Tree) → Lawful schema → tree_of schema type_no s ≡ Some t → Fitted schema type_no t }
 {}
 
 /// Merging the empty message of a type changes no message of that type, on either side.
