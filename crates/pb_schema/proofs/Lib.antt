@@ -8,6 +8,7 @@ pub mod FormLaws
 pub mod WalkSteps
 pub mod RecordsFound
 pub mod RecordsFront
+pub mod OneRecord
 pub mod MergeLaws
 pub mod FaultLaws
 pub mod SoundRecords

@@ -3,8 +3,11 @@ ghost use Rattle.std.specs.Prelude.{◌≡◌, ◌≢◌, ◌↔◌, ℕ, ◌+�
 ghost use Rattle.std.specs.List.{range_with_len};
 ghost use Rattle.pb_schema.specs.declared.schema.Schema.{Schema};
 ghost use Rattle.pb_schema.specs.Varint.{Varint, varint_at, length_bytes, value_bytes, varint_of};
+ghost use Rattle.pb_schema.specs.Tag.{IsTag};
+ghost use Rattle.pb_schema.specs.Form.{Form, read_tag, read_length};
+ghost use Rattle.pb_schema.specs.Walk.{record_left};
 ghost use Rattle.pb_schema.specs.Frames.{Frames, frames_of};
-ghost use Rattle.pb_schema.specs.Records.{Record, Records, RecordsWithin, records_of, records_within};
+ghost use Rattle.pb_schema.specs.Records.{AreRecords, IsRecord, Record, Records, RecordsWithin, record_of, records_of, records_within};
 ghost use Rattle.pb_schema.specs.Tree.{Tree};
 ghost use Rattle.pb_schema.specs.Fits.{Message, contents_of, fields_of};
 ghost use Rattle.pb_schema.specs.Fault.{fault_of, most_levels};
@@ -42,6 +45,16 @@ pub fn one_list_of_records()
     ensures only { (s : List ℕ) (rs qs : List Record) → Records s rs → Records s qs → rs ≡ qs }
     ensures exact { (s : List ℕ) (rs : List Record) → (records_of s ≡ Some rs) ↔ Records s rs }
     ensures within { (levels : ℕ) (s : List ℕ) (rs : List Record) → (records_within levels s ≡ Some rs) ↔ RecordsWithin levels s rs }
+{}
+
+/// What is read at the front of some bytes is a tag, a length or a record exactly where one stands there, at whatever
+/// byte the bytes begin and whatever follows; a record is read without a type, with groups nested at most so many
+/// levels.
+pub fn one_record()
+    ensures tag { (at : ℕ) (s : List ℕ) (number wire n : ℕ) → (read_tag at s ≡ Ok (number, wire, n)) ↔ ((n ≤ length s) × IsTag (take n s) number wire) }
+    ensures prefix { (at : ℕ) (s : List ℕ) (len n : ℕ) → (read_length at s ≡ Ok (len, n)) ↔ ((n ≤ length s) × Varint (take n s) length_bytes len × (len < 2 ^ 31)) }
+    ensures found { (levels at : ℕ) (s : List ℕ) (form : Form) → record_left [] levels [] at s ≡ Ok form → IsRecord (AreRecords levels) (record_of form s) × (0 < form.size) × (form.size ≤ length s) }
+    ensures front { (levels at : ℕ) (s rest : List ℕ) (r : Record) → IsRecord (AreRecords levels) r → s ≡ r.span ++ rest → (form : Form) × (record_left [] levels [] at s ≡ Ok form) × (form.size ≡ length r.span) × (record_of form s ≡ r) }
 {}
 
 /// At the root a payload has a tree exactly where it has no fault. At each depth a payload without a fault is cut into

@@ -18,8 +18,8 @@ mod wire_fault;
 pub use kind::{Card, FieldType, Kind};
 pub use laws::{
     a_tree_where_no_fault, decoded_trees_are_fitted, empty_merges_to_the_same,
-    frames_are_read_back, one_framing, one_list_of_records, one_varint, shortest_varint,
-    varint_by_places,
+    frames_are_read_back, one_framing, one_list_of_records, one_record, one_varint,
+    shortest_varint, varint_by_places,
 };
 pub use lists::{ByteList, FieldList, Name};
 pub use no_memory::NoMemory;
