@@ -1,5 +1,5 @@
 -- Laws of faults: what a payload without one has.
-use Rattle.std.proofs.Common.{◌≡◌, ℕ, zero, suc, ◌+◌, ◌-◌, List, [], ◌∷◌, take, drop, Bool, true, false, eqb, Option, None, Some, Result, Ok, Err, refl, sym, ap, ◌∙◌, subst, arith, take-append-drop}
+use Rattle.std.proofs.Common.{◌≡◌, ℕ, zero, suc, ◌+◌, ◌-◌, List, [], ◌∷◌, take, drop, Bool, true, false, eqb, Option, None, Some, Result, Ok, Err, refl, sym, ap, ◌∙◌}
 use Rattle.std.specs.Prelude.{IsSome}
 use Rattle.std.proofs.lemmas.Option.{none-some}
 use Rattle.pb_schema.specs.declared.kind.FieldType.{FieldType}
@@ -11,13 +11,11 @@ use Rattle.pb_schema.specs.Reads.{◌>>=◌, fault_read}
 use Rattle.pb_schema.specs.Fits.{fields_of, contents_of}
 use Rattle.pb_schema.specs.Form.{Form, form_at}
 use Rattle.pb_schema.specs.Walk.{Stop, Deeper, read_contents, read_held, closed, ends, walk, walk_left, deeper_left}
-use Rattle.pb_schema.specs.Records.{Record, RecordsWithin, record_of}
 use Rattle.pb_schema.specs.Fault.{fault_of, most_levels}
 use Rattle.pb_schema.specs.Tree.{Tree}
 use Rattle.pb_schema.specs.TreeOf.{tree_of, tree_left}
 use Rattle.pb_schema.proofs.FormLaws.{not_ok, bind_ok}
 use Rattle.pb_schema.proofs.WalkSteps.{after_ends, after_whole, if_group, if_start, walk_left_is}
-use Rattle.pb_schema.proofs.RecordsFound.{each_found}
 
 abbrev tree_unless : Schema → ℕ → List ℕ → Option WireFault → Option Tree
 tree_unless schema type_no s o = elim o [ None ↦ Some (tree_left schema.types most_levels (fields_of schema.types type_no) s) | Some fault ↦ None ]
@@ -70,14 +68,14 @@ left_same : (types : List MessageType) (left tag at : ℕ) (group : Option ℕ) 
 left_same types left tag at group s same =
     walk_left_is types left tag [] group at s ∙ (walk_same types left same group 0 at s ∙ sym (walk_left_is [] left tag [] group at s))
 
-same_held : (types : List MessageType) (left : ℕ) → SameHeld types left
+pub same_held : (types : List MessageType) (left : ℕ) → SameHeld types left
 same_held types zero at s form = start_same types (deeper_left types 0) (deeper_left [] 0) at s form (eqb form.wire 3) refl
 same_held types (suc left) at s form =
     start_same types (deeper_left types (suc left)) (deeper_left [] (suc left)) at s form (eqb form.wire 3)
     (left_same types left at (at + form.payload) (Some form.number) (drop form.payload s) (same_held types left))
 
 -- a record that is read at a type is read without one
-held_untyped : (types : List MessageType) (left : ℕ) (fields : List FieldType) (at : ℕ) (s : List ℕ) (form whole : Form) (t : Bool) → eqb form.wire 3 ≡ t → read_held types (deeper_left types left) fields at s form ≡ Ok whole → read_held [] (deeper_left [] left) [] at s form ≡ Ok whole
+pub held_untyped : (types : List MessageType) (left : ℕ) (fields : List FieldType) (at : ℕ) (s : List ℕ) (form whole : Form) (t : Bool) → eqb form.wire 3 ≡ t → read_held types (deeper_left types left) fields at s form ≡ Ok whole → read_held [] (deeper_left [] left) [] at s form ≡ Ok whole
 held_untyped types left fields at s form whole true start e =
     sym (same_held types left at s form) ∙ (ap (if_start types (deeper_left types left) [] at s form) start ∙ (sym (ap (if_start types (deeper_left types left) fields at s form) start) ∙ e))
 held_untyped types left fields at s form whole false start e =
@@ -87,28 +85,6 @@ held_untyped types left fields at s form whole false start e =
     plain true e = not_ok (record { kind = GroupEnd; byte = at }) whole e
     plain false e = bind_ok (read_contents types (deeper_left types left) at (at + form.payload) (take form.payload_len (drop form.payload s)) (contents_of fields form.number form.wire)) (λ _. Ok form) whole e λ x was is. is
 
--- what is walked over are records
-walked : (types : List MessageType) (left : ℕ) (fields : List FieldType) (skip at : ℕ) (s : List ℕ) (stop : Stop) → walk types (deeper_left types left) fields None at skip s ≡ Ok stop → (rs : List Record) × RecordsWithin left (drop skip s) rs
-walked types left fields zero at [] stop e = ([], refl)
-walked types left fields (suc skip) at [] stop e = ([], refl)
-walked types left fields (suc skip) at (b ∷ s) stop e = walked types left fields skip (suc at) s stop e
-walked types left fields zero at (b ∷ s) stop e =
-    bind_ok (form_at at (b ∷ s)) (λ form. after_ends types (deeper_left types left) fields None at b s form false) stop e
-    λ form was is.
-    bind_ok (read_held types (deeper_left types left) fields at (b ∷ s) form) (λ whole. walk types (deeper_left types left) fields None (suc at) (whole.size - 1) s) stop is
-    λ whole held more.
-    let found = each_found left at (b ∷ s) form whole was (held_untyped types left fields at (b ∷ s) form whole (eqb form.wire 3) refl held) in
-    let size : suc (whole.size - 1) ≡ whole.size = omega (arith, found.some) in
-    let rest = walked types left fields (whole.size - 1) (suc at) s stop more in
-    (record_of whole (b ∷ s) ∷ rest.0, (drop whole.size (b ∷ s), found.is, sym (take-append-drop whole.size (b ∷ s)), subst (λ n. RecordsWithin left (drop n (b ∷ s)) rest.0) size rest.1))
-
-walk_ok : (r : Result Stop WireFault) → fault_read r ≡ None → (stop : Stop) × (r ≡ Ok stop)
+pub walk_ok : (r : Result Stop WireFault) → fault_read r ≡ None → (stop : Stop) × (r ≡ Ok stop)
 walk_ok (Ok stop) e = (stop, refl)
 walk_ok (Err d) e = absurd (none-some d (sym e))
-
--- a payload without a fault is cut into records
-pub records_there : (schema : Schema) (type_no : ℕ) (s : List ℕ) → fault_of schema type_no 0 s ≡ None → (rs : List Record) × RecordsWithin most_levels s rs
-records_there schema type_no s e =
-    let fields = fields_of schema.types type_no in
-    let ok = walk_ok (walk_left schema.types most_levels 0 fields None 0 s) e in
-    walked schema.types most_levels fields 0 0 s ok.0 (sym (walk_left_is schema.types most_levels 0 fields None 0 s) ∙ ok.1)

@@ -8,9 +8,16 @@ pub mod FormLaws
 pub mod WalkSteps
 pub mod RecordsFound
 pub mod RecordsFront
+pub mod OneRecord
 pub mod MergeLaws
 pub mod FaultLaws
+pub mod SoundRecords
+pub mod Gathering
+pub mod FittedLaws
 mod Rows
 mod Examples
 mod TreeExamples
+mod KindExamples
+mod FittedExamples
+mod LawfulExamples
 pub mod TickLaws

@@ -36,7 +36,7 @@ take_two (suc a) b (x ∷ s) =
 
 -- TAGS
 
-tag_found : (s : List ℕ) (number wire n : ℕ) → TagParts s number wire n → IsTag (take n s) number wire
+pub tag_found : (s : List ℕ) (number wire n : ℕ) → TagParts s number wire n → IsTag (take n s) number wire
 tag_found s number wire n p = record {
   varint = (varint_at_found tag_bytes s (number * 8 + wire) n p.varint).1;
   below = p.below;

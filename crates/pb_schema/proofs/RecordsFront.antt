@@ -298,7 +298,7 @@ records_of_spans levels (r ∷ rs) s p =
 -- AS MANY LEVELS AS BYTES
 
 -- how groups that are nested otherwise are spelled
-spells_with : (A B : List ℕ → Type 0) (number wire : ℕ) (payload behind : List ℕ) → Spells A number wire payload behind → (wire ≡ 3 → A payload → B payload) → Spells B number wire payload behind
+pub spells_with : (A B : List ℕ → Type 0) (number wire : ℕ) (payload behind : List ℕ) → Spells A number wire payload behind → (wire ≡ 3 → A payload → B payload) → Spells B number wire payload behind
 spells_with A B number zero payload behind p f = p
 spells_with A B number (suc zero) payload behind p f = p
 spells_with A B number (suc (suc zero)) payload behind p f = p

@@ -16,5 +16,6 @@ pub mod Depth
 pub mod Units
 pub mod Merge
 pub mod Fitted
+pub mod Lawful
 pub mod Tick
 pub mod Builtin

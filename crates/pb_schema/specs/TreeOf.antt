@@ -21,7 +21,7 @@ use Rattle.pb_schema.specs.Empty.{empty_with}
 -- the number of some bytes, the lowest first
 abbrev pub little_endian : List ℕ → ℕ
 little_endian [] = 0
-little_endian (b ∷ s) = b + 256 * little_endian s
+little_endian (b ∷ s) = b % 256 + 256 * little_endian s
 
 -- the number that the bytes of a value of wire type 0, or of a fixed one, spell
 abbrev pub number_in : ℕ → List ℕ → ℕ

@@ -3,12 +3,17 @@ ghost use Rattle.std.specs.Prelude.{◌≡◌, ◌≢◌, ◌↔◌, ℕ, ◌+�
 ghost use Rattle.std.specs.List.{range_with_len};
 ghost use Rattle.pb_schema.specs.declared.schema.Schema.{Schema};
 ghost use Rattle.pb_schema.specs.Varint.{Varint, varint_at, length_bytes, value_bytes, varint_of};
+ghost use Rattle.pb_schema.specs.Tag.{IsTag};
+ghost use Rattle.pb_schema.specs.Form.{Form, read_tag, read_length};
+ghost use Rattle.pb_schema.specs.Walk.{record_left};
 ghost use Rattle.pb_schema.specs.Frames.{Frames, frames_of};
-ghost use Rattle.pb_schema.specs.Records.{Record, Records, RecordsWithin, records_of, records_within};
+ghost use Rattle.pb_schema.specs.Records.{AreRecords, IsRecord, Record, Records, RecordsWithin, record_of, records_of, records_within};
 ghost use Rattle.pb_schema.specs.Tree.{Tree};
+ghost use Rattle.pb_schema.specs.Fits.{Message, contents_of, fields_of};
 ghost use Rattle.pb_schema.specs.Fault.{fault_of, most_levels};
 ghost use Rattle.pb_schema.specs.TreeOf.{tree_of};
 ghost use Rattle.pb_schema.specs.Fitted.{Fitted};
+ghost use Rattle.pb_schema.specs.Lawful.{Lawful};
 ghost use Rattle.pb_schema.specs.Empty.{empty};
 ghost use Rattle.pb_schema.specs.Merge.{merge_of};
 ghost use Rattle.pb_schema.specs.Text.{framed};
@@ -42,10 +47,32 @@ pub fn one_list_of_records()
     ensures within { (levels : ℕ) (s : List ℕ) (rs : List Record) → (records_within levels s ≡ Some rs) ↔ RecordsWithin levels s rs }
 {}
 
-/// A payload has a tree exactly where it has no fault, and then it is cut into records, from which the tree is gathered.
+/// What is read at the front of some bytes is a tag, a length or a record exactly where one stands there, at whatever
+/// byte the bytes begin and whatever follows; a record is read without a type, with groups nested at most so many
+/// levels.
+pub fn one_record()
+    ensures tag { (at : ℕ) (s : List ℕ) (number wire n : ℕ) → (read_tag at s ≡ Ok (number, wire, n)) ↔ ((n ≤ length s) × IsTag (take n s) number wire) }
+    ensures prefix { (at : ℕ) (s : List ℕ) (len n : ℕ) → (read_length at s ≡ Ok (len, n)) ↔ ((n ≤ length s) × Varint (take n s) length_bytes len × (len < 2 ^ 31)) }
+    ensures found { (levels at : ℕ) (s : List ℕ) (form : Form) → record_left [] levels [] at s ≡ Ok form → IsRecord (AreRecords levels) (record_of form s) × (0 < form.size) × (form.size ≤ length s) }
+    ensures front { (levels at : ℕ) (s rest : List ℕ) (r : Record) → IsRecord (AreRecords levels) r → s ≡ r.span ++ rest → (form : Form) × (record_left [] levels [] at s ≡ Ok form) × (form.size ≡ length r.span) × (record_of form s ≡ r) }
+{}
+
+/// At the root a payload has a tree exactly where it has no fault. At each depth a payload without a fault is cut into
+/// records; each of them that a message field takes holds a payload that has no fault one level deeper, and is at most
+/// 100 levels below the root; and two payloads without a fault have none one behind the other. So wherever a tree
+/// gathers from the records of a payload, at the root or in a message at any level, there are records.
 pub fn a_tree_where_no_fault()
     ensures tree { (schema : Schema) (type_no : ℕ) (s : List ℕ) → IsSome (tree_of schema type_no s) ↔ (fault_of schema type_no 0 s ≡ None) }
-    ensures records { (schema : Schema) (type_no : ℕ) (s : List ℕ) → fault_of schema type_no 0 s ≡ None → (rs : List Record) × RecordsWithin most_levels s rs }
+    ensures records { (schema : Schema) (type_no depth : ℕ) (s : List ℕ) → fault_of schema type_no depth s ≡ None → (rs : List Record) × RecordsWithin (most_levels - depth) s rs }
+    ensures nested { (schema : Schema) (type_no depth : ℕ) (s : List ℕ) (rs : List Record) → fault_of schema type_no depth s ≡ None → RecordsWithin (most_levels - depth) s rs → All (λ r. (inner : ℕ) → contents_of (fields_of schema.types type_no) r.number r.wire ≡ Message inner → (depth < most_levels) × (fault_of schema inner (depth + 1) r.payload ≡ None)) rs }
+    ensures together { (schema : Schema) (type_no depth : ℕ) (s t : List ℕ) → fault_of schema type_no depth s ≡ None → fault_of schema type_no depth t ≡ None → fault_of schema type_no depth (s ++ t) ≡ None }
+{}
+
+/// A payload that has a tree at a type of a lawful schema has one that a message of that type may be: each value is of
+/// its field's kind, no field without presence holds its default, at most one member of a oneof is set, what fits no
+/// field is whole records, and messages nest at most 100 levels deep.
+pub fn decoded_trees_are_fitted()
+    ensures { (schema : Schema) (type_no : ℕ) (s : List ℕ) (t : Tree) → Lawful schema → tree_of schema type_no s ≡ Some t → Fitted schema type_no t }
 {}
 
 /// Merging the empty message of a type changes no message of that type, on either side.

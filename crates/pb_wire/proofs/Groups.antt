@@ -1,8 +1,8 @@
 -- A varint that is written group by group, with more groups behind each, until the last is put in its place.
-use Rattle.std.proofs.Common.{◌≡◌, ◌+◌, ◌-◌, ◌*◌, ◌/◌, ◌%◌, ◌^◌, ◌<◌, ◌≤◌, ℕ, zero, suc, List, [], ◌∷◌, ◌++◌, length, take, set, length-append, refl, sym, ap, ◌∙◌, subst, arith, pow-add, pow_mono}
+use Rattle.std.proofs.Common.{◌≡◌, ◌+◌, ◌-◌, ◌*◌, ◌/◌, ◌%◌, ◌^◌, ◌<◌, ◌≤◌, ℕ, zero, suc, List, [], ◌∷◌, ◌++◌, length, take, drop, set, length-append, drop-drop, refl, sym, ap, ◌∙◌, subst, arith, pow-add, pow_mono}
 use Rattle.std.proofs.Math.Nat.{div-div-eq-div-mul, div-one}
 use Rattle.std.proofs.lemmas.Nat.{le-div, div_below, pow_pos}
-use Rattle.std.proofs.lemmas.List.{take_more_set}
+use Rattle.std.proofs.lemmas.List.{take_more_set, drop-set-lt}
 use Rattle.pb_schema.specs.Varint.{groups, varint_of}
 use Rattle.pb_schema.proofs.Steps.{groups_more, groups_last}
 use Rattle.pb_schema.proofs.VarintLaws.{groups_power}
@@ -70,6 +70,10 @@ pub groups_count : (k v : ℕ) → k ≤ 9 → 2 ^ (7 * k) ≤ v → v < 2 ^ (7 
 groups_count k v fits below above =
     let last = (v / 2 ^ (7 * k)) ∷ [] in
     sym (ap length (groups_end 9 k v fits below (subst (λ n. v < 2 ^ (7 * n)) (sym (suc_more k)) above)) ∙ (length-append (continued k v) last ∙ ap (λ n. n + 1) (length-continued k v)))
+
+-- the room behind a group that is written is as it was
+pub behind_more : (room before : List ℕ) (k b : ℕ) → drop k room ≡ drop k before → drop (k + 1) (set room k b) ≡ drop (k + 1) before
+behind_more room before k b e = drop-set-lt (k + 1) room k b (omega arith) ∙ (sym (drop-drop 1 k room) ∙ (ap (drop 1) e ∙ drop-drop 1 k before))
 
 -- a value of one group
 pub one_group : (v : ℕ) → v < 128 → varint_of v ≡ v ∷ []

@@ -43,11 +43,12 @@ pub fn read_tag(bytes: &[u8], start: u32) -> Result<(u32, u8, u32), WireFault>
 }
 
 /// Writes the shortest tag of a field's number and a wire type to the front of the room, and answers how many bytes it
-/// has.
+/// has. The room behind is left as it was.
 #[inline]
 pub fn write_tag(number: u32, wire: u8, room: &mut [u8; 10]) -> usize
     ensures spelled { take result room.new ≡ varint_of (tag_of number wire) }
     ensures count { result ≡ length (varint_of (tag_of number wire)) }
+    ensures rest { drop result room.new ≡ drop result room.old }
     ensures bound { (0 < result) × (result ≤ 10) }
 {
     write_varint(u64::from(number) * WIRE_TYPES + u64::from(wire), room)

@@ -100,11 +100,13 @@ pub fn varint_len(value: u64) -> u32
     last_group(value) as u32 + 1
 }
 
-/// Writes the shortest varint of a value to the front of the room, and answers how many bytes it has.
+/// Writes the shortest varint of a value to the front of the room, and answers how many bytes it has. The room behind
+/// is left as it was.
 #[inline]
 pub fn write_varint(value: u64, room: &mut [u8; 10]) -> usize
     ensures spelled { take result room.new ≡ varint_of value }
     ensures count { result ≡ length (varint_of value) }
+    ensures rest { drop result room.new ≡ drop result room.old }
     ensures bound { (0 < result) × (result ≤ 10) }
 {
     if value < 128 {
