@@ -18,3 +18,4 @@ pub mod Placing
 pub mod Filling
 pub mod Making
 pub mod Sums
+pub mod Worked

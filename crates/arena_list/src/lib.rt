@@ -14,6 +14,8 @@ mod plays;
 mod sizes;
 mod slots;
 mod steps;
+#[cfg(test)]
+mod tests;
 mod told;
 mod view;
 mod walk;
