@@ -19,3 +19,4 @@ pub mod Filling
 pub mod Making
 pub mod Sums
 pub mod Worked
+pub mod OneList

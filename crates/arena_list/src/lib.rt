@@ -7,6 +7,7 @@
 
 mod entry;
 mod founding;
+mod laws;
 mod laying;
 mod list;
 mod make;
@@ -22,6 +23,7 @@ mod walk;
 
 pub use entry::Entry;
 pub use founding::Founding;
+pub use laws::words_show_one_list;
 pub use list::{ArenaList, ListRule, ListSeat};
 pub use told::Told;
 pub use view::{Base, Hand, Hold, Node, View};
