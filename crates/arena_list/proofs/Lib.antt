@@ -18,3 +18,5 @@ pub mod Placing
 pub mod Filling
 pub mod Making
 pub mod Sums
+pub mod Worked
+pub mod OneList

@@ -11,7 +11,7 @@ use Rattle.atomic_table.proofs.Lists.{at_last}
 use Rattle.arena_list.proofs.Lists.{at_there}
 use Rattle.arena_list.proofs.Few.{or_at, at_map, len_map}
 
-past_end : {A : Type 0} (l : List A) (i : ℕ) (d : A) → length l ≤ i → get_or l i d ≡ d
+pub past_end : {A : Type 0} (l : List A) (i : ℕ) (d : A) → length l ≤ i → get_or l i d ≡ d
 past_end [] i d h = refl
 past_end (x ∷ xs) zero d h = absurd (omega arith)
 past_end (x ∷ xs) (suc i) d h = past_end xs i d (omega arith)

@@ -1,6 +1,7 @@
 -- What a seat keeps beside its view stays right over each step.
 use Rattle.std.proofs.Common.{◌≡◌, ℕ, ◌+◌, ◌*◌, ◌/◌, ◌%◌, ◌^◌, ◌<◌, ◌≤◌, Bool, true, false, eqb, List, [], ◌∷◌, ◌++◌, length, sym, refl, ap, subst, ◌∙◌, arith, Option, Some, None}
 use Rattle.std.proofs.lemmas.Bool.{false≢true}
+use Rattle.std.specs.Prelude.{slice_index}
 use mathlib.Core.Option.{none}
 use Rattle.std.proofs.lemmas.Option.{none-some}
 use Rattle.atomic_table.specs.Table.{rest as rest_of_slots}
@@ -39,6 +40,12 @@ module _ {V : Type 0} where
     told true t s e = (refl, cc)
     told false t s e = absurd (none-some s e)
 
+  pub mine_none : (v : View V) → mine v ≡ None → (hand v).linked ≡ false
+  mine_none v e = told (hand v).linked (hand v).slot e where
+    told : (b : Bool) (t : ℕ) → when b t ≡ None → b ≡ false
+    told true t e = absurd (none-some t (sym e))
+    told false t e = refl
+
   -- a seat that took a value carries it
   pub took_value : (m : Meter V) (part : V) (slot : ℕ) (me me' : Sat V) → me' ≡ (held me.0 (Away (m.used part)), ((hand me.0).slot, Some part) ∷ me.1) → (hand me.0).slot ≡ slot
       → (old : Option V) × (me'.1 ≡ (slot, old) ∷ rest_of_slots me'.1)
@@ -49,7 +56,12 @@ module _ {V : Type 0} where
   filled slot part me me' empty is = is ∙ (λ i. (me.0, (slot, Some part) ∷ rest_of_slots (empty i)))
 
   pub gave_after : (m : Meter V) (st : Step (Option V)) (r slot : ℕ) (part : V) (me me' me'' : Sat V) → me' ≡ (me.0, (slot, Some part) ∷ []) → slot ≡ (hand me.0).slot → gave m st me' r me'' → me'' ≡ (settled m me.0 part, [])
-  gave_after m st r slot part me me' me'' is at told = told part [] (ap (λ (x : Sat V). x.1) is ∙ (λ i. (at i, Some part) ∷ []) ∙ ap (λ (x : Sat V). ((hand x.0).slot, Some part) ∷ []) (sym is)) ∙ ap (λ (x : Sat V). (settled m x.0 part, [])) is
+  gave_after m st r slot part me me' me'' is at told = (told part [] (ap (λ (x : Sat V). x.1) is ∙ (λ i. (at i, Some part) ∷ []) ∙ ap (λ (x : Sat V). ((hand x.0).slot, Some part) ∷ []) (sym is))).0 ∙ ap (λ (x : Sat V). (settled m x.0 part, [])) is
+
+  -- what was seen of the slot before is at most the value's used sum
+  pub gave_more : (m : Meter V) (st : Step (Option V)) (r slot : ℕ) (part : V) (me me' me'' : Sat V) → me' ≡ (me.0, (slot, Some part) ∷ []) → slot ≡ (hand me.0).slot → gave m st me' r me'' → slice_index me.0.sizes (hand me.0).slot ≤ m.used part
+  gave_more m st r slot part me me' me'' is at told = let t = (told part [] (ap (λ (x : Sat V). x.1) is ∙ (λ i. (at i, Some part) ∷ []) ∙ ap (λ (x : Sat V). ((hand x.0).slot, Some part) ∷ []) (sym is))).1 in
+      let e = ap (λ (x : Sat V). slice_index x.0.sizes (hand x.0).slot) is in omega arith
 
 module _ {V : Type 0} (m : Meter V) {caller slot used head : ℕ} {linked : Bool} {me : Sat V} where
   -- a step that leaves the hands

@@ -184,8 +184,10 @@ module _ {V : Type 0} (m : Meter V) (k : Founding V) where
             (rehold s r id v at alone x new hs (Rests part) (standing_after s r id v at alone x, set_here s.homes h.slot (some (Some part)) within, fits))
             (knows_after s r id v at alone x w grown refl (length-set v.sizes h.slot (m.used part) ∙ knows.room) (λ slot ne. get_or-set_other v.sizes h.slot slot (m.used part) 0 ne)
             (let e = get_or-set_same v.sizes h.slot (m.used part) 0 room in omega arith))),
-        λ other rest there. let same : ((h.slot, Some part) ∷ out) ≡ ((h.slot, Some other) ∷ rest) = sym has ∙ there in let heads : ◌≡◌ {A = ℕ × Option V} (h.slot, Some part) (h.slot, Some other) = cc in let inner : Some part ≡ Some other = ap (λ (z : ℕ × Option V). z.1) heads in let p : part ≡ other = cc in let q : out ≡ rest = cc in
-            subst (λ (c : List (ℕ × Option V)). ◌≡◌ {A = Sat V} (w, rest_of_slots c) (settled m v other, rest)) (sym has) (λ i. (settled m v (p i), q i)),
+        λ other rest there. let same : ((h.slot, Some part) ∷ out) ≡ ((h.slot, Some other) ∷ rest) = sym has ∙ there in let heads : ◌≡◌ {A = ℕ × Option V} (h.slot, Some part) (h.slot, Some other) = cc in let inner : Some part ≡ Some other = ap (λ (z : ℕ × Option V). z.1) heads in let p : part ≡ other = cc in let q : out ≡ rest = cc in (
+          subst (λ (c : List (ℕ × Option V)). ◌≡◌ {A = Sat V} (w, rest_of_slots c) (settled m v other, rest)) (sym has) (λ i. (settled m v (p i), q i)),
+          let seen = knows.sizes h.slot in let e = ap m.used p in omega arith,
+        ),
       )
 
   pub sizes_up : (slots id slot : ℕ) (me : Sat V) → length me.0.hands ≡ 1 → slot < 64

@@ -1,22 +1,22 @@
 -- What the states show of the nodes of a list, added up on a walk.
 use Rattle.std.proofs.Common.{◌≡◌, ℕ, zero, suc, ◌+◌, ◌-◌, ◌%◌, ◌^◌, ◌<◌, ◌≤◌, ◌≢◌, List, [], ◌∷◌, length, drop, set, sym, refl, ap, subst, ◌∙◌, arith}
 use Rattle.std.specs.Prelude.{slice_index}
-use Rattle.std.proofs.lemmas.List.{get_or-set_other}
+use Rattle.std.proofs.lemmas.List.{get_or-set_other, get_or-set_same}
 use mathlib.Core.Option.{some, some-injective, some-ne-none}
 use mathlib.Core.Logic.{dite}
-use native.Mathlib.Decide.{ℕ_discrete}
+use native.Mathlib.Decide.{ℕ_discrete, dec_le}
 use lib.ListN.{get_elem?}
 use Rattle.atomic_table.proofs.Lists.{drop_at}
 use Rattle.arena_list.specs.declared.view.Node.{Node}
 use Rattle.arena_list.specs.declared.view.Hand.{Hand}
 use Rattle.arena_list.specs.declared.view.View.{View}
 use Rattle.arena_list.specs.Nodes.{node, before, node_word, Begins}
-use Rattle.arena_list.specs.Views.{hand, out, sum_seen}
+use Rattle.arena_list.specs.Views.{hand, out, shown, sum_seen}
 use Rattle.arena_list.specs.Founded.{Meter}
-use Rattle.arena_list.specs.Steps.{Sees, looked, counted, sized, used_now}
+use Rattle.arena_list.specs.Steps.{Sees, looked, counted, settled, sized, used_now}
 use Rattle.arena_list.specs.Calls.{IsSumming, HasSummed}
-use Rattle.arena_list.proofs.Lists.{at_there, at_one, at_below}
-use Rattle.arena_list.proofs.Links.{before_at, before_small}
+use Rattle.arena_list.proofs.Lists.{at_there, at_one, at_below, begins_itself}
+use Rattle.arena_list.proofs.Links.{before_at, before_small, past_end}
 use Rattle.arena_list.proofs.SeatFacts.{mine_tells}
 
 at_drop : {A : Type 0} (l : List A) (i j : ℕ) (a : A) → get_elem? (drop i l) j ≡ some a → get_elem? l (i + j) ≡ some a
@@ -37,6 +37,21 @@ sum_begins a b (x ∷ xs) [] p h = absurd (let s = p.short in omega arith)
 sum_begins a b (x ∷ xs) (y ∷ ys) p h = let same : y ≡ x = some-injective y x (p.same 0 x refl) in
     let rest = sum_begins a b xs ys record { short = (let s = p.short in omega arith); same = λ k n e. p.same (suc k) n e } h in
     let here = h x.slot in let is : slice_index b y.slot ≡ slice_index b x.slot = ap (λ (n : Node). slice_index b n.slot) same in omega arith
+
+module _ {V : Type 0} (v w : View V) where
+  -- what a seat was shown never falls: by a call that leaves the sizes
+  pub shown_grows : Begins v.seen w.seen → w.sizes ≡ v.sizes → shown v ≤ shown w
+  shown_grows begins same = sum_begins v.sizes w.sizes v.seen w.seen begins (λ slot. let e = ap (λ (l : List ℕ). slice_index l slot) same in omega arith)
+
+  -- and where its own value is given
+  pub shown_given : (m : Meter V) (part : V) → w ≡ settled m v part → slice_index v.sizes (hand v).slot ≤ m.used part → shown v ≤ shown w
+  shown_given m part is more = let on : Begins v.seen w.seen = subst (λ (l : List Node). Begins v.seen l) (ap (λ (x : View V). x.seen) (sym is)) (begins_itself v.seen) in
+      sum_begins v.sizes w.sizes v.seen w.seen on (λ slot. let e : slice_index w.sizes slot ≡ slice_index (set v.sizes (hand v).slot (m.used part)) slot = ap (λ (x : View V). slice_index x.sizes slot) is in
+      dite (ℕ_discrete slot (hand v).slot)
+      (λ (own : slot ≡ (hand v).slot). let o : slice_index v.sizes slot ≡ slice_index v.sizes (hand v).slot = ap (slice_index v.sizes) own in dite (dec_le (length v.sizes) slot)
+      (λ out. let z : slice_index v.sizes slot ≡ 0 = past_end v.sizes slot 0 out in omega arith)
+      (λ within. let z : slice_index (set v.sizes (hand v).slot (m.used part)) (hand v).slot ≡ m.used part = get_or-set_same v.sizes (hand v).slot (m.used part) 0 (omega arith) in let y : slice_index (set v.sizes (hand v).slot (m.used part)) slot ≡ slice_index (set v.sizes (hand v).slot (m.used part)) (hand v).slot = ap (slice_index (set v.sizes (hand v).slot (m.used part))) own in omega arith))
+      (λ other. let z : slice_index (set v.sizes (hand v).slot (m.used part)) slot ≡ slice_index v.sizes slot = get_or-set_other v.sizes (hand v).slot slot (m.used part) 0 other in omega arith))
 
 sum_untouched : (sizes : List ℕ) (slot used : ℕ) (xs : List Node) → ((j : ℕ) (x : Node) → get_elem? xs j ≡ some x → x.slot ≢ slot) → sum_seen (set sizes slot used) xs ≡ sum_seen sizes xs
 sum_untouched sizes slot used [] h = refl

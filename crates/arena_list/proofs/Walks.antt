@@ -11,10 +11,11 @@ use Rattle.arena_list.specs.declared.view.Hand.{Hand}
 use Rattle.arena_list.specs.declared.view.View.{View}
 use Rattle.arena_list.specs.Nodes.{node, before, head_of, node_word, Begins}
 use Rattle.arena_list.specs.Views.{hand, who, mine, spare, when, unless}
-use Rattle.arena_list.specs.Steps.{Sees, looked, counted, noted, joined}
+use Rattle.arena_list.specs.Steps.{Sees, looked, counted, noted, own_node, joined}
 use Rattle.arena_list.specs.Calls.{HasFound, HasTried, HasJoined, IsWalking}
-use Rattle.arena_list.proofs.Lists.{at_below, at_there, at_one, begins_itself, begins_on}
+use Rattle.arena_list.proofs.Lists.{at_below, at_there, at_one, begins_itself, begins_on, begins_more}
 use Rattle.arena_list.proofs.Links.{before_at, before_small}
+use Rattle.arena_list.proofs.Sums.{shown_grows}
 
 module _ {V : Type 0} (v : View V) (sees : Sees (hand v) v.seen) where
   pub walk_starts : (left link : ℕ) → left ≡ length v.seen → link ≡ before v.seen (length v.seen) → IsWalking v v left link
@@ -88,6 +89,7 @@ module _ {V : Type 0} (v : View V) (sees : Sees (hand v) v.seen) where
       let steps : u.list_steps ≡ w.list_steps + 1 = ap (λ (x : View V). x.list_steps) step in let began : v.list_steps ≡ old.list_steps + 1 = ap (λ (x : View V). x.list_steps) look in record {
         found = (left - 1, ap (λ (l : List Node). get_elem? l (left - 1)) seen ∙ t.1 ∙ ap some n_is);
         none = tt;
+        earlier = shown_grows old u (subst (λ (l : List Node). Begins old.seen l) (sym seen) begins) (ap (λ (x : View V). x.sizes) step ∙ ap (λ (x : View V). x.sizes) o.same ∙ ap (λ (x : View V). x.sizes) look);
         mine_is = (λ i. Some ((at ∙ t.2 ∙ slots.1) i)) ∙ ap (λ (b : Bool). when b (hand v).slot) (sym slots.0) ∙ ap (λ (h : Hand V). when h.linked h.slot) (sym same_hand);
         some_step = (let a = o.steps in let b = o.within in omega arith);
         steps = (let a = o.steps in let e : length u.seen ≡ length v.seen = ap length seen in omega arith);
@@ -102,6 +104,7 @@ module _ {V : Type 0} (v : View V) (sees : Sees (hand v) v.seen) where
   walk_ends old w link look begins o = let seen : w.seen ≡ v.seen = ap (λ (x : View V). x.seen) o.same in let same_hand = walk_hand w 0 link o in
       let began : v.list_steps ≡ old.list_steps + 1 = ap (λ (x : View V). x.list_steps) look in record {
         found = tt;
+        earlier = shown_grows old w (subst (λ (l : List Node). Begins old.seen l) (sym seen) begins) (ap (λ (x : View V). x.sizes) o.same ∙ ap (λ (x : View V). x.sizes) look);
         none = λ k n e. λ c. o.past k n (omega arith) (ap (λ (l : List Node). get_elem? l k) (sym seen) ∙ e) (c ∙ ap (λ (h : Hand V). h.who) same_hand);
         mine_is = ⊎_elim
             (λ t. let own = sees.linked t in absurd (o.past own.0 (node (hand v).slot (hand v).who) (omega arith) own.1 refl))
@@ -140,6 +143,7 @@ module _ {V : Type 0} (v : View V) where
         appended = (w.seen, o.seen, ap (λ (x : View V). x.seen) is ∙ (λ i. w.seen ++ node ((o.slot ∙ sym at) i) (o.who_is i) ∷ []));
         steps = (let a = o.steps in omega arith);
         few = few;
+        earlier = shown_grows v u (subst (λ (l : List Node). Begins v.seen l) (ap (λ (x : View V). x.seen) (sym is)) (begins_on o.seen (begins_more w.seen (own_node w ∷ [])))) (ap (λ (x : View V). x.sizes) is ∙ o.sizes);
         who_is = ap (λ (x : View V). (hand x).who) is ∙ o.who_is;
         hold = ap (λ (x : View V). (hand x).hold) is ∙ o.hold;
         sizes = ap (λ (x : View V). x.sizes) is ∙ o.sizes;

@@ -19,6 +19,8 @@ module _ {V : Type 0} where
     -- None exactly where no node of the caller stood in the list
     pub found : IfSome answer (λ slot. HasNode w.seen slot (who w))
     pub none : IfNone answer (Lacks w.seen (who w))
+    -- what a seat was shown never falls
+    pub earlier : shown v ≤ shown w
     pub mine_is : answer ≡ mine w
     -- one step for the look, and at most one for each node
     pub some_step : v.list_steps + 1 ≤ w.list_steps
@@ -47,6 +49,7 @@ module _ {V : Type 0} where
     -- two steps for each exchange, of which each that failed showed a longer list
     pub steps : w.list_steps + 2 * length v.seen ≤ v.list_steps + 2 * length w.seen
     pub few : length w.seen ≤ 64
+    pub earlier : shown v ≤ shown w
     pub who_is : who w ≡ who v
     pub hold : out w ≡ out v
     pub sizes : w.sizes ≡ v.sizes

@@ -118,7 +118,7 @@ module _ {V : Type 0} where
   claimed st me r me' = me' ≡ (held me.0 Filling, ((hand me.0).slot, None) ∷ me.1)
 
   abbrev pub gave : Meter V → Step (Option V) → Sat V → ℕ → Sat V → Type 0
-  gave m st me r me' = (part : V) (out : List (ℕ × Option V)) → me.1 ≡ ((hand me.0).slot, Some part) ∷ out → me' ≡ (settled m me.0 part, out)
+  gave m st me r me' = (part : V) (out : List (ℕ × Option V)) → me.1 ≡ ((hand me.0).slot, Some part) ∷ out → (me' ≡ (settled m me.0 part, out)) × (slice_index me.0.sizes (hand me.0).slot ≤ m.used part)
 
   abbrev pub saw_size : Meter V → Step (Option V) → Sat V → ℕ → Sat V → Type 0
   saw_size m st me r me' = (slot : ℕ) → st.word ≡ state_at slot → (me' ≡ (sized me.0 slot (r / 2), me.1)) × (slice_index me.0.sizes slot ≤ r / 2) × (slice_index (set me.0.sizes slot (r / 2)) slot ≡ r / 2) × (slot ≡ (hand me.0).slot → r / 2 ≡ used_now m (hand me.0).hold)

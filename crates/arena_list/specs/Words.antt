@@ -13,6 +13,10 @@ node_at slot = 8 + slot
 abbrev pub state_at : ℕ → ℕ
 state_at slot = 80 + 8 * slot
 
+-- each slot is one of 64
+abbrev pub AreSmall : List Node → Type 0
+AreSmall nodes = (k : ℕ) (n : Node) → get_elem? nodes k ≡ some n → n.slot < 64
+
 abbrev pub bit : Bool → ℕ
 bit true = 1
 bit false = 0

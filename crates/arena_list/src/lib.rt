@@ -7,6 +7,7 @@
 
 mod entry;
 mod founding;
+mod laws;
 mod laying;
 mod list;
 mod make;
@@ -14,12 +15,15 @@ mod plays;
 mod sizes;
 mod slots;
 mod steps;
+#[cfg(test)]
+mod tests;
 mod told;
 mod view;
 mod walk;
 
 pub use entry::Entry;
 pub use founding::Founding;
+pub use laws::words_show_one_list;
 pub use list::{ArenaList, ListRule, ListSeat};
 pub use told::Told;
 pub use view::{Base, Hand, Hold, Node, View};

@@ -2,7 +2,7 @@
 ghost use Rattle.std.specs.Prelude.{◌≡◌, ℕ, ◌≤◌, Some};
 ghost use Rattle.arena_list.specs.declared.view.Hold.TheVariants.{Vacant, Filling, Away, Rests};
 ghost use Rattle.arena_list.specs.Founded.{meter, Fits};
-ghost use Rattle.arena_list.specs.Views.{who, mine, out};
+ghost use Rattle.arena_list.specs.Views.{who, mine, out, shown};
 ghost use Rattle.arena_list.specs.Steps.{IsOut, used_now, held, settled};
 ghost use Rattle.arena_list.specs.Seats.{view, IsSeatOf, SameList};
 
@@ -45,6 +45,8 @@ impl<V: Part> ArenaList<V> {
         requires part { Fits (meter V.owner_of V.life_of V.used_of) self.now.table.shared.key.life (who (view seat.old)) part }
         ensures list { SameList seat.old seat.new }
         ensures view { view seat.new ≡ settled (meter V.owner_of V.life_of V.used_of) (view seat.old) part }
+        // what a seat was shown never falls
+        ensures earlier { shown (view seat.old) ≤ shown (view seat.new) }
     {
         let _ = slot;
         seat.put(&self.table.shared, part);
@@ -60,6 +62,7 @@ impl<V: Part> ListSeat<V> {
         requires part { Fits (meter V.owner_of V.life_of V.used_of) words.now.key.life (who (view self.old)) part }
         ensures list { SameList self.old self.new }
         ensures view { view self.new ≡ settled (meter V.owner_of V.life_of V.used_of) (view self.old) part }
+        ensures earlier { shown (view self.old) ≤ shown (view self.new) }
     {
         let slot = self.slot as usize;
         let used = part.used();

@@ -1,6 +1,7 @@
-use Rattle.std.proofs.Common.{refl, arith, sym, ◌∙◌}
+use Rattle.std.proofs.Common.{ℕ, refl, arith, sym, subst, ◌∙◌}
+use Rattle.arena_list.specs.Calls.{IsWalking}
 use Rattle.arena_list.specs.Seats.{view}
-use Rattle.arena_list.proofs.Walks.{sees_after, head_parts, walk_starts, walk_node, walk_goes, walk_finds, walk_who}
+use Rattle.arena_list.proofs.Walks.{sees_after, head_parts, walk_starts, walk_node, walk_goes, walk_finds, walk_ends, walk_who}
 use Rattle.arena_list.proofs.list.ArenaList.find.Goals as goal
 
 pub loop-left-init : goal.loop-left-init
@@ -24,3 +25,7 @@ pub loop-left-preserved : goal.loop-left-preserved
 loop-left-preserved g c = let e = c.look-head.ensures in let r = c.read_node-node.ensures in let old = view c.args.seat.now in let v = view c.look-head.new.seat in
     let own = c.read_node-node.new.seat.seated.caller_is ∙ walk_who v _ _ _ _ c.loop-left.invariant.1 r.view in
     (r.list ∙ c.loop-left.invariant.0, walk_goes v (sees_after old v e.view e.seen.1) _ _ _ _ _ c.loop-left.invariant.1 c.loop-left-test.true r.view r.node (λ is. c.if-node-seat.false (is ∙ sym own)))
+
+pub returns-clause-found : goal.returns-clause-found
+returns-clause-found g c = let e = c.look-head.ensures in let old = view c.args.seat.now in let v = view c.look-head.new.seat in
+    walk_ends v (sees_after old v e.view e.seen.1) old _ _ e.view e.seen.0 (subst (λ (left : ℕ). IsWalking v (view c.loop-left.seat) left c.loop-left.link) (let h = c.loop-left-test.false in omega arith) c.loop-left.invariant.1)

@@ -3,7 +3,8 @@ use mathlib.Core.Option.{none}
 use Rattle.atomic_table.specs.Table.{step}
 use Rattle.arena_list.specs.declared.view.Hold.TheVariants.{Rests}
 use Rattle.arena_list.specs.Founded.{meter}
-use Rattle.arena_list.proofs.SeatFacts.{give_step, carries_none, filled, gave_after, seated_hold}
+use Rattle.arena_list.proofs.SeatFacts.{give_step, carries_none, filled, gave_after, gave_more, seated_hold}
+use Rattle.arena_list.proofs.Sums.{shown_given}
 use Rattle.arena_list.proofs.list.ListSeat.put.Goals as goal
 
 pub store-requires : goal.store-requires
@@ -23,3 +24,7 @@ invariant_of-self g c = let o = c.args.self.now.seated in let M = (meter g.V.Par
 pub returns-clause-view : goal.returns-clause-view
 returns-clause-view g c = let o = c.args.self.now.seated in let M = (meter g.V.Part.owner_of g.V.Part.life_of g.V.Part.used_of) in
     ap (λ x. x.0) (gave_after M (step 0 0 0 0 none) 0 _ c.args.part c.args.self.now.seat.me _ _ (filled _ c.args.part _ _ (carries_none M o c.requires.out) c.exchange.ensures.3) o.slot_is c.store.ensures.2)
+
+pub returns-clause-earlier : goal.returns-clause-earlier
+returns-clause-earlier g c = let o = c.args.self.now.seated in let M = (meter g.V.Part.owner_of g.V.Part.life_of g.V.Part.used_of) in let f = filled _ c.args.part _ _ (carries_none M o c.requires.out) c.exchange.ensures.3 in
+    shown_given c.args.self.now.seat.me.0 c.store.new.seat.me.0 M c.args.part (ap (λ x. x.0) (gave_after M (step 0 0 0 0 none) 0 _ c.args.part c.args.self.now.seat.me _ _ f o.slot_is c.store.ensures.2)) (gave_more M (step 0 0 0 0 none) 0 _ c.args.part c.args.self.now.seat.me _ _ f o.slot_is c.store.ensures.2)
