@@ -33,6 +33,10 @@ module _ (total : ℕ) (words : List ℕ) (views : List View) (r : IdRule total 
       let one = r.counted in
       greatest_below (ids_of v.taken) 0 r.next (omega arith) (λ id c. below_next port v at id (let there = in_batches v.taken id c in let parts = times_parts id v in omega arith))
 
+  -- no id of the next batch stands in a batch that a seat has
+  pub fresh_next : (port : ℕ) (v : View) → get_elem? views port ≡ some v → (id : ℕ) → times id r.next + times_in id v ≤ 1
+  fresh_next port v at id = let mine = one_of (times_in id) views port v at in let all = r.once id in omega arith
+
   -- the rule holds of other views with the same sums
   pub regroup : (others : List View) → sum_by batches others ≡ sum_by batches views → sum_by share others ≡ sum_by share views
       → ((id : ℕ) → sum_by (times_in id) others ≡ sum_by (times_in id) views)
@@ -104,6 +108,7 @@ may_take total slots port me own some_left s r _ at _ =
           view = ap (λ (n : ℕ). view_of v.total (v.taken ++ n ∷ []) v.given (v.quota - 1)) (sym is);
           above = subst (λ (n : ℕ). greatest (ids_of v.taken) < n) (sym is) (above_taken total s.words s.views r port v at);
           room = omega arith;
+          fresh = λ id. subst (λ (n : ℕ). times id n + times_in id v ≤ 1) (sym is) (fresh_next total s.words s.views r port v at id);
           alone = λ all. is ∙ alone_next total s.words s.views r port v at own all;
         },
         refl,

@@ -2,7 +2,7 @@
 use Rattle.std.specs.Prelude.{◌≡◌, ℕ, ◌+◌, ◌-◌, ◌*◌, ◌^◌, ◌<◌, ◌≤◌, [], ◌∷◌, ◌++◌}
 use Rattle.atomic_table.specs.Table.{State, Me, Step}
 use Rattle.life_ids.specs.declared.view.View.{View}
-use Rattle.life_ids.specs.Batches.{ids_of, greatest}
+use Rattle.life_ids.specs.Batches.{ids_of, greatest, times}
 use Rattle.life_ids.specs.Rule.{IdRule, view_of, batches, share, times_in}
 
 abbrev pub Seated : Type 0
@@ -16,6 +16,7 @@ pub record Took (v : View) (found : ℕ) (w : View) : Type 0 where
   pub view : w ≡ view_of v.total (v.taken ++ found ∷ []) v.given (v.quota - 1)
   pub above : greatest (ids_of v.taken) < found
   pub room : found + 256 ≤ 2 ^ 63 + 1
+  pub fresh : (id : ℕ) → times id found + times_in id v ≤ 1
   pub alone : share v ≡ v.total → found ≡ 1 + 256 * batches v
 
 -- nothing changed, and the seat learns what the rule says of its own view

@@ -3,7 +3,7 @@ ghost use Rattle.std.specs.Prelude.{◌≡◌, ◌+◌, ◌-◌, ◌*◌, ◌<�
 ghost use Rattle.std.specs.List.{Contains};
 ghost use Rattle.std.specs.List.Sorted.{IsStrictlyIncreasing};
 ghost use Rattle.life_ids.specs.Plays.{kept, cut_off};
-ghost use Rattle.life_ids.specs.Seats.{SeatState, new_seat, next_id, drawn, greatest_drawn, ids_held, ids_left, IsAlone};
+ghost use Rattle.life_ids.specs.Seats.{SeatState, new_seat, next_id, drawn, greatest_drawn, ids_held, ids_left, IsAlone, IsFresh};
 
 use crate::rule::{Batches, Both, Cut, IdLaw, Look, Take};
 use crate::seat::{BATCH, IdSeat};
@@ -50,6 +50,7 @@ impl LifeIds {
         ensures counter { seat.new.counter ≡ seat.old.counter }
         ensures next { IfOk result (λ id. 0 < seat.old.rest → (id ≡ next_id seat.old) × (seat.new ≡ record seat.old { rest = seat.old.rest - 1 })) }
         ensures batch { IfOk result (λ id. seat.old.rest ≡ 0 → seat.new ≡ record seat.old { taken = seat.old.taken ++ id ∷ []; quota = seat.old.quota - 1; rest = 255 }) }
+        ensures fresh { IfOk result (λ id. seat.old.rest ≡ 0 → IsFresh id seat.old) }
         ensures drawn { IfOk result (λ id. drawn seat.new ≡ drawn seat.old ++ id ∷ []) }
         ensures ascends { IfOk result (λ id. greatest_drawn seat.old < id) }
         ensures ascending { IsStrictlyIncreasing (drawn seat.new) }
@@ -73,6 +74,7 @@ impl LifeIds {
         requires used_up { seat.old.rest ≡ 0 }
         requires quota { 0 < seat.old.quota }
         ensures batch { seat.new ≡ record seat.old { taken = seat.old.taken ++ result ∷ []; quota = seat.old.quota - 1; rest = 255 } }
+        ensures fresh { IsFresh result seat.old }
         ensures drawn { drawn seat.new ≡ drawn seat.old ++ result ∷ [] }
         ensures ascends { greatest_drawn seat.old < result }
         ensures ascending { IsStrictlyIncreasing (drawn seat.new) }

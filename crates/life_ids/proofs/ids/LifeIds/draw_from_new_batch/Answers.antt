@@ -1,7 +1,8 @@
 use Rattle.std.proofs.Common.{◌<◌, ℕ, ap, sym, ◌∙◌, subst, arith}
-use Rattle.life_ids.specs.Seats.{SeatState}
+use Rattle.life_ids.specs.Seats.{SeatState, IsFresh}
 use Rattle.life_ids.proofs.Own.{same_table, same_total}
 use Rattle.life_ids.proofs.Keeps.{may_take}
+use Rattle.life_ids.proofs.Apart.{taken_apart}
 use Rattle.life_ids.proofs.Rests.{from_new_batch}
 use Rattle.life_ids.proofs.ids.LifeIds.draw_from_new_batch.Goals as goal
 
@@ -31,3 +32,7 @@ returns-clause-ascending c =
     let new = from_new_batch _ _ _ _ _ _ _ _ c.seat.invariant.0 (ap (λ (s : SeatState). s.rest) c.seat.view_is) (ap (λ (s : SeatState). s.quota) c.seat.view_is)
     c.requires.used_up c.requires.quota c.fetch_add-start.ensures.2.0 in
     new.0.ascending
+
+pub returns-clause-fresh : goal.returns-clause-fresh
+unfolding IsFresh
+returns-clause-fresh c = rw (← c.seat.view_is) (taken_apart _ _ _ c.fetch_add-start.ensures.2.0)
