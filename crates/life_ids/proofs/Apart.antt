@@ -1,13 +1,13 @@
--- No id is in the batches of two seats that are joined.
+-- No id is in the batches of two seats that are joined, nor in those of a seat and in a batch that it takes.
 use Rattle.std.proofs.Common.{◌≡◌, ◌∙◌, ℕ, ◌-◌, ◌≤◌, List, ◌++◌, length, take, drop, ap, subst, arith}
 use Rattle.std.specs.List.{Contains}
 use Rattle.std.proofs.lemmas.List.{take-append-drop}
 use Rattle.std.proofs.lemmas.List.Elements.{Contains-append_left}
 use Rattle.life_ids.specs.declared.view.View.{View}
-use Rattle.life_ids.specs.Batches.{ids_of, ids_but}
+use Rattle.life_ids.specs.Batches.{batch, ids_of, ids_but}
 use Rattle.life_ids.specs.Rule.{times_in}
-use Rattle.life_ids.specs.Plays.{joined}
-use Rattle.life_ids.proofs.BatchIds.{in_batches}
+use Rattle.life_ids.specs.Plays.{Took, joined}
+use Rattle.life_ids.proofs.BatchIds.{in_batch, in_batches}
 use Rattle.life_ids.proofs.Keeps.{joined_times, times_parts}
 
 -- an id that was drawn is one of the batches
@@ -32,3 +32,7 @@ module _ (v w u : View) (is : u ≡ joined v w) (once : (id : ℕ) → times_in 
 
   pub drawn_apart : (m n id : ℕ) → Contains (ids_but m v.taken) id → ¬ Contains (ids_but n w.taken) id
   drawn_apart m n id mine other = not_in_both id (drawn_once v m id mine) (drawn_once w n id other)
+
+pub taken_apart : (v w : View) (found : ℕ) → Took v found w → (id : ℕ) → Contains (batch found) id → ¬ Contains (ids_of (v.taken ++ v.given)) id
+taken_apart v w found took id new old =
+    let one = in_batch found id new in let two = in_batches (v.taken ++ v.given) id old in let most = took.fresh id in absurd (omega arith)

@@ -6,13 +6,14 @@ use Rattle.std.proofs.lemmas.List.Sums.{sum_by-append, sum_by_push}
 use mathlib.Core.Option.{none, some, some-ne-none}
 use lib.ListN.{get_elem?}
 use Rattle.atomic_table.specs.Table.{step, keeps, opening, Allows, Splits, Joins}
-use Rattle.atomic_table.proofs.Lists.{at_set, at_snoc, set_again}
+use Rattle.atomic_table.proofs.Lists.{at_set, at_snoc, set_again, set_here}
 use Rattle.life_ids.specs.declared.view.View.{View}
 use Rattle.life_ids.specs.Batches.{times, ids_of, greatest}
 use Rattle.life_ids.specs.Rule.{view_of, times_in, batches, share, IdRule}
+use Rattle.life_ids.specs.Moments.{Moment, TakenView, SeenView}
 use Rattle.life_ids.specs.Plays.{Seated, Ruled, took, looked, kept, cut_off, joined, spent}
 use Rattle.life_ids.proofs.BatchIds.{in_batches, times_at, greatest_below, increasing_push}
-use Rattle.life_ids.proofs.Views.{sum_set, one_of, beside}
+use Rattle.life_ids.proofs.Views.{stands, sum_set, one_of, beside}
 
 -- how often an id stands in the batches of a view, said by its parts
 pub times_parts : (id : ℕ) (v : View) → times_in id v ≡ sum_by (times id) v.taken + sum_by (times id) v.given
@@ -33,6 +34,10 @@ module _ (total : ℕ) (words : List ℕ) (views : List View) (r : IdRule total 
       let one = r.counted in
       greatest_below (ids_of v.taken) 0 r.next (omega arith) (λ id c. below_next port v at id (let there = in_batches v.taken id c in let parts = times_parts id v in omega arith))
 
+  -- no id of the next batch stands in a batch that a seat has
+  pub fresh_next : (port : ℕ) (v : View) → get_elem? views port ≡ some v → (id : ℕ) → times id r.next + times_in id v ≤ 1
+  fresh_next port v at id = let mine = one_of (times_in id) views port v at in let all = r.once id in omega arith
+
   -- the rule holds of other views with the same sums
   pub regroup : (others : List View) → sum_by batches others ≡ sum_by batches views → sum_by share others ≡ sum_by share views
       → ((id : ℕ) → sum_by (times_in id) others ≡ sum_by (times_in id) views)
@@ -43,9 +48,16 @@ module _ (total : ℕ) (words : List ℕ) (views : List View) (r : IdRule total 
     counted = r.counted ∙ ap (λ (n : ℕ). 1 + 256 * n) (sym same_batches);
     shared = same_share ∙ r.shared;
     few = r.few;
-    once = λ id. subst (λ (n : ℕ). n ≤ min 1 (r.next - id)) (sym (same_times id)) (r.once id);
+    once = λ id. subst (λ (n : ℕ). n ≤ min 1 (min id (r.next - id))) (sym (same_times id)) (r.once id);
     ascending = up;
   }
+
+  -- the moment of a step, with the view of a seat
+  now : (port : ℕ) (v : View) → get_elem? views port ≡ some v → Moment total r.next views port v
+  now port v at = record { rule = subst (λ (ws : List ℕ). IdRule total ws views) r.word r; stands = at }
+
+  pub seen : (port : ℕ) (v : View) → get_elem? views port ≡ some v → SeenView total v
+  seen port v at = record { next = r.next; views = views; port = port; moment = now port v at }
 
   module _ (port : ℕ) (v : View) (at : get_elem? views port ≡ some v) (some_left : 0 < v.quota) where
     abbrev pub taking : View
@@ -72,6 +84,14 @@ module _ (total : ℕ) (words : List ℕ) (views : List View) (r : IdRule total 
               (λ same. subst (λ (u : View). IsStrictlyIncreasing u.taken) same.1 (increasing_push v.taken r.next (r.ascending port v at) (start_below port v at)))
               (λ rest. r.ascending other w rest.1) (at_set views port other taking w at');
         }
+
+    pub takes_now : TakenView total r.next v taking
+    takes_now = record {
+      views = views;
+      port = port;
+      before = now port v at;
+      after = record { rule = takes; stands = set_here views port taking (stands views port v at).0 };
+    }
 
 -- with every batch that is taken or can be, the counter is where the seat's own batches end
 alone_next : (total : ℕ) (words : List ℕ) (views : List View) (r : IdRule total words views) (port : ℕ) (v : View) → get_elem? views port ≡ some v → v.total ≡ total → share v ≡ v.total → r.next ≡ 1 + 256 * batches v
@@ -104,14 +124,17 @@ may_take total slots port me own some_left s r _ at _ =
           view = ap (λ (n : ℕ). view_of v.total (v.taken ++ n ∷ []) v.given (v.quota - 1)) (sym is);
           above = subst (λ (n : ℕ). greatest (ids_of v.taken) < n) (sym is) (above_taken total s.words s.views r port v at);
           room = omega arith;
+          fresh = λ id. subst (λ (n : ℕ). times id n + times_in id v ≤ 1) (sym is) (fresh_next total s.words s.views r port v at id);
           alone = λ all. is ∙ alone_next total s.words s.views r port v at own all;
+          moments = subst (λ (t : ℕ). TakenView t (get_or s.words 0 0) v (taking total s.words s.views r port v at some_left)) (sym own)
+              (subst (λ (n : ℕ). TakenView total n v (taking total s.words s.views r port v at some_left)) (sym is) (takes_now total s.words s.views r port v at some_left));
         },
         refl,
       ),
     )
 
-pub may_look : (total slots port : ℕ) (me : Seated) → Allows (Ruled total) slots port me 0 (λ n. n) (looked (step slots 0 0 0 none) me)
-may_look total slots port me s r _ at _ =
+pub may_look : (total slots port : ℕ) (me : Seated) → me.0.total ≡ total → Allows (Ruled total) slots port me 0 (λ n. n) (looked (step slots 0 0 0 none) me)
+may_look total slots port me own s r _ at _ =
     let v : View = me.0 in
     let words : set s.words 0 (get_or s.words 0 0) ≡ s.words = ap (λ (ws : List ℕ). set ws 0 (get_or ws 0 0)) r.word ∙ sym r.word in
     let shared = r.shared in
@@ -126,6 +149,7 @@ may_look total slots port me s r _ at _ =
           view = refl;
           once = λ id. let most = one_of (times_in id) s.views port v at in let all = r.once id in omega arith;
           few = omega arith;
+          moment = subst (λ (t : ℕ). SeenView t v) (sym own) (seen total s.words s.views r port v at);
         },
         refl,
       ),

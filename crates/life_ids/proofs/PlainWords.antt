@@ -10,10 +10,10 @@ use Rattle.std.proofs.lemmas.List.Sums.{sum_by-cons, sum_by-append, get_or-le-su
 use Rattle.life_ids.specs.declared.view.View.{View}
 use Rattle.life_ids.specs.Batches.{batch, ids_of, times}
 use Rattle.life_ids.specs.Rule.{IdRule, times_in, batches, share}
-use Rattle.life_ids.specs.Laws.{BelowNext, SeatsApart, BatchesApart, IdsAscend, HasRoom}
+use Rattle.life_ids.specs.Laws.{BelowNext, FromOne, SeatsApart, BatchesApart, TakenApart, IdsAscend, HasRoom}
 use Rattle.life_ids.proofs.BatchIds.{in_batch, in_batches, first_id}
 use Rattle.life_ids.proofs.Views.{one_of, two_of}
-use Rattle.life_ids.proofs.Keeps.{below_next}
+use Rattle.life_ids.proofs.Keeps.{below_next, fresh_next}
 
 -- ---- sums
 two_in : (f : ℕ → ℕ) (xs : List ℕ) (i j : ℕ) → i < j → j < length xs → f (get_or xs i 0) + f (get_or xs j 0) ≤ sum_by f xs
@@ -80,6 +80,12 @@ module _ (total : ℕ) (words : List ℕ) (views : List View) (r : IdRule total 
   pub below : BelowNext words views
   below port v at id c = subst (λ (n : ℕ). id < n) (sym word) (below_next total words views r port v at id (in_batches (v.taken ++ v.given) id c))
 
+  pub from_one : FromOne views
+  from_one port v at id c =
+      let there = in_batches (v.taken ++ v.given) id c in
+      let mine = one_of (times_in id) views port v at in
+      let most = r.once id in omega arith
+
   pub seats : SeatsApart views
   seats p q v w apart at at' id c c' =
       let one = in_batches (v.taken ++ v.given) id c in
@@ -112,3 +118,12 @@ module _ (total : ℕ) (words : List ℕ) (views : List View) (r : IdRule total 
       let few = r.few in
       let parts = share_parts views in
       let is = word in omega arith
+
+pub taken_apart : TakenApart
+taken_apart total start v w taken port u at id new old =
+    let r = taken.before.rule in
+    let is : start ≡ r.next = word total (start ∷ []) taken.views r in
+    let one = in_batch start id new in
+    let two = in_batches (u.taken ++ u.given) id old in
+    let same : times id start ≡ times id r.next = ap (times id) is in
+    let most = fresh_next total (start ∷ []) taken.views r port u at id in absurd (omega arith)

@@ -1,8 +1,9 @@
 -- Worked values, computed by the definitions.
-use Rattle.std.proofs.Common.{◌≡◌, [], ◌∷◌, take, refl}
+use Rattle.std.proofs.Common.{◌≡◌, [], ◌∷◌, take, refl, arith}
 use Rattle.atomic_table.specs.Seated.{TableId}
 use Rattle.life_ids.specs.Batches.{batch, greatest, times}
-use Rattle.life_ids.specs.Seats.{Counter, SeatState, new_seat, drawn, next_id, greatest_drawn, ids_left}
+use Rattle.life_ids.specs.Seats.{Counter, SeatState, new_seat, drawn, next_id, greatest_drawn, ids_left, IsFresh}
+use Rattle.life_ids.specs.Rule.{IdRule, view_of}
 
 module _ (table : TableId) where
   abbrev counter : Counter
@@ -26,6 +27,11 @@ module _ (table : TableId) where
   unfolding batch
   the_greatest = refl
 
+  -- the batch from 257 on came with another seat
+  given_is_not_fresh : ¬ IsFresh 257 seat
+  unfolding batch IsFresh
+  given_is_not_fresh fresh = fresh 257 (0, omega arith, refl) (512, omega arith, refl)
+
   nothing_drawn : greatest_drawn (new_seat counter 4) ≡ 0
   nothing_drawn = refl
 
@@ -37,3 +43,7 @@ in_the_first = refl
 
 no_order : greatest (3 ∷ 7 ∷ 5 ∷ []) ≡ 7
 no_order = refl
+
+-- 0 is no id
+no_id_is_0 : ¬ IdRule 1 (257 ∷ []) (view_of 1 (0 ∷ []) [] 0 ∷ [])
+no_id_is_0 r = let most = r.once 0 in absurd (omega arith)

@@ -1,6 +1,7 @@
 pub mod Batches
 pub mod Seats
 pub mod Rule
+pub mod Moments
 pub mod Plays
 pub mod Fields
 pub mod Laws

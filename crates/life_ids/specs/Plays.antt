@@ -2,8 +2,9 @@
 use Rattle.std.specs.Prelude.{◌≡◌, ℕ, ◌+◌, ◌-◌, ◌*◌, ◌^◌, ◌<◌, ◌≤◌, [], ◌∷◌, ◌++◌}
 use Rattle.atomic_table.specs.Table.{State, Me, Step}
 use Rattle.life_ids.specs.declared.view.View.{View}
-use Rattle.life_ids.specs.Batches.{ids_of, greatest}
+use Rattle.life_ids.specs.Batches.{ids_of, greatest, times}
 use Rattle.life_ids.specs.Rule.{IdRule, view_of, batches, share, times_in}
+use Rattle.life_ids.specs.Moments.{TakenView, SeenView}
 
 abbrev pub Seated : Type 0
 Seated = Me (Unit {0}) View
@@ -16,13 +17,16 @@ pub record Took (v : View) (found : ℕ) (w : View) : Type 0 where
   pub view : w ≡ view_of v.total (v.taken ++ found ∷ []) v.given (v.quota - 1)
   pub above : greatest (ids_of v.taken) < found
   pub room : found + 256 ≤ 2 ^ 63 + 1
+  pub fresh : (id : ℕ) → times id found + times_in id v ≤ 1
   pub alone : share v ≡ v.total → found ≡ 1 + 256 * batches v
+  pub moments : TakenView v.total found v w
 
 -- nothing changed, and the seat learns what the rule says of its own view
 pub record Looked (v w : View) : Type 0 where
   pub view : w ≡ v
   pub once : (id : ℕ) → times_in id v ≤ 1
   pub few : v.quota ≤ 2 ^ 55
+  pub moment : SeenView v.total v
 
 abbrev pub took : Step (Unit {0}) → Seated → ℕ → Seated → Type 0
 took s me found after = Took me.0 found after.0 × (after.1 ≡ me.1)

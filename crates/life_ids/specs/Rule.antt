@@ -1,4 +1,4 @@
--- The rule of the counter, which holds between any two steps of any threads.
+-- The rule of the counter, which each step of each seat keeps.
 use Rattle.std.specs.Prelude.{◌≡◌, ℕ, ◌+◌, ◌-◌, ◌*◌, ◌^◌, ◌≤◌, List, [], ◌∷◌, ◌++◌, length, min}
 use Rattle.std.specs.List.{sum_by}
 use Rattle.std.specs.List.Sorted.{IsStrictlyIncreasing}
@@ -29,7 +29,7 @@ pub record IdRule (total : ℕ) (words : List ℕ) (views : List View) : Type 0 
   pub counted : next ≡ 1 + 256 * sum_by batches views
   pub shared : sum_by share views ≡ total
   pub few : total ≤ 2 ^ 55
-  -- over the batches of all views, an id below it stands once at most, and no other does
-  pub once : (id : ℕ) → sum_by (times_in id) views ≤ min 1 (next - id)
+  -- over the batches of all views, an id from 1 on that is below it stands once at most, and no other number does
+  pub once : (id : ℕ) → sum_by (times_in id) views ≤ min 1 (min id (next - id))
   -- the batches that a seat took ascend
   pub ascending : (port : ℕ) (v : View) → get_elem? views port ≡ some v → IsStrictlyIncreasing v.taken

@@ -1,7 +1,8 @@
 -- What contracts see of a counter and of its seats.
 use Rattle.std.specs.Prelude.{◌≡◌, ℕ, ◌+◌, ◌*◌, List, [], ◌++◌, length}
+use Rattle.std.specs.List.{Contains}
 use Rattle.atomic_table.specs.Seated.{TableId}
-use Rattle.life_ids.specs.Batches.{ids_of, ids_but, first_left, greatest}
+use Rattle.life_ids.specs.Batches.{batch, ids_of, ids_but, first_left, greatest}
 
 -- which counter it is, and how many batches it was made for
 pub record Counter : Type 0 where
@@ -35,6 +36,10 @@ greatest_drawn seat = greatest (drawn seat)
 -- all ids that no other seat has: of the batches that it took, and of those that came with other seats
 abbrev pub ids_held : SeatState → List ℕ
 ids_held seat = ids_of (seat.taken ++ seat.given)
+
+-- no id of this batch stands in the batches of the seat, those that came with other seats among them
+unfoldable pub IsFresh : ℕ → SeatState → Type 0
+IsFresh start seat = (id : ℕ) → Contains (batch start) id → ¬ Contains (ids_held seat) id
 
 -- how many ids the seat can still draw
 abbrev pub ids_left : SeatState → ℕ

@@ -5,7 +5,8 @@ use std::marker::Model;
 
 /// What a thread keeps of the arena that it used last: the arena's life and its own slot there.
 ///
-/// Lives are ids, so a cache of an ended arena has a life that no arena has again.
+/// Lives are ids of one counter. A life that the same seat draws later is greater (`draw`: `ascends`), so a cache of an
+/// ended life isn't of the one that follows it.
 #[derive(Clone, Copy, Debug, PartialEq, Eq)]
 pub struct ThreadCache {
     life: u64,

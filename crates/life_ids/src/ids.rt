@@ -3,7 +3,8 @@ ghost use Rattle.std.specs.Prelude.{◌≡◌, ◌+◌, ◌-◌, ◌*◌, ◌<�
 ghost use Rattle.std.specs.List.{Contains};
 ghost use Rattle.std.specs.List.Sorted.{IsStrictlyIncreasing};
 ghost use Rattle.life_ids.specs.Plays.{kept, cut_off};
-ghost use Rattle.life_ids.specs.Seats.{SeatState, new_seat, next_id, drawn, greatest_drawn, ids_held, ids_left, IsAlone};
+ghost use Rattle.life_ids.specs.Moments.{IsRuled, TookBatch};
+ghost use Rattle.life_ids.specs.Seats.{SeatState, new_seat, next_id, drawn, greatest_drawn, ids_held, ids_left, IsAlone, IsFresh};
 
 use crate::rule::{Batches, Both, Cut, IdLaw, Look, Take};
 use crate::seat::{BATCH, IdSeat};
@@ -37,7 +38,7 @@ impl Model for LifeIds {
 
 impl LifeIds {
     /// The next id of the seat's batch. Where that is used up, 256 new ids are taken first, by one fetch and add, and
-    /// the quota falls by 1. It takes no memory, and never waits.
+    /// the quota falls by 1. It takes no memory, and has no loop to wait in.
     ///
     /// # Errors
     ///
@@ -50,6 +51,9 @@ impl LifeIds {
         ensures counter { seat.new.counter ≡ seat.old.counter }
         ensures next { IfOk result (λ id. 0 < seat.old.rest → (id ≡ next_id seat.old) × (seat.new ≡ record seat.old { rest = seat.old.rest - 1 })) }
         ensures batch { IfOk result (λ id. seat.old.rest ≡ 0 → seat.new ≡ record seat.old { taken = seat.old.taken ++ id ∷ []; quota = seat.old.quota - 1; rest = 255 }) }
+        // A new batch has no id of those that the seat had, and the rule of all seats holds as it is taken.
+        ensures fresh { IfOk result (λ id. seat.old.rest ≡ 0 → IsFresh id seat.old) }
+        ensures moment { IfOk result (λ id. seat.old.rest ≡ 0 → TookBatch id seat.old seat.new) }
         ensures drawn { IfOk result (λ id. drawn seat.new ≡ drawn seat.old ++ id ∷ []) }
         ensures ascends { IfOk result (λ id. greatest_drawn seat.old < id) }
         ensures ascending { IsStrictlyIncreasing (drawn seat.new) }
@@ -73,6 +77,8 @@ impl LifeIds {
         requires used_up { seat.old.rest ≡ 0 }
         requires quota { 0 < seat.old.quota }
         ensures batch { seat.new ≡ record seat.old { taken = seat.old.taken ++ result ∷ []; quota = seat.old.quota - 1; rest = 255 } }
+        ensures fresh { IsFresh result seat.old }
+        ensures moment { TookBatch result seat.old seat.new }
         ensures drawn { drawn seat.new ≡ drawn seat.old ++ result ∷ [] }
         ensures ascends { greatest_drawn seat.old < result }
         ensures ascending { IsStrictlyIncreasing (drawn seat.new) }
@@ -108,6 +114,7 @@ impl LifeIds {
     pub fn give_back(&self, seat: &mut IdSeat, other: IdSeat)
         requires own { (seat.old.counter ≡ self.now) × (other.counter ≡ self.now) }
         ensures added { seat.new ≡ record seat.old { given = seat.old.given ++ other.taken ++ other.given; quota = seat.old.quota + other.quota } }
+        ensures moment { IsRuled seat.new }
         // No id was drawn by both.
         ensures apart { (id : ℕ) → Contains (drawn seat.old) id → ¬ Contains (drawn other) id }
         // Nor does one stand in the batches of both, those that were given back to either among them.

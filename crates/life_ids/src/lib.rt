@@ -1,8 +1,9 @@
 //! Ids for the lives of arenas, drawn in batches over one atomic word.
 //!
 //! It stands on `atomic_table`, and the arenas that threads share stand on it: each life of an arena has an id of
-//! its own, and a thread's cache names the life that it is of. Its contract: the ids that one seat draws ascend, no
-//! two seats of one counter draw the same id, and each seat draws exactly as many as its quota allows.
+//! its own, and a thread's cache names the life that it is of. Its contract: the ids that one seat draws ascend
+//! (`ascends`), a batch that a seat takes has no id that any seat of the counter has at that moment (`moment`, with the
+//! law `ids_differ`), and each seat draws exactly as many as its quota allows (`left`, `spent`).
 #![tactic(auto)]
 
 mod cache;

@@ -1,7 +1,8 @@
 // A counter and one seat, in one value.
 ghost use Rattle.std.specs.Prelude.{◌≡◌, ◌+◌, ◌-◌, ◌*◌, ◌^◌, ◌<◌, ◌≤◌, ◌↔◌, ◌∷◌, ◌++◌, [], length, IsErr, IsOk, IfOk, OnOk, OnErr};
 ghost use Rattle.std.specs.List.Sorted.{IsStrictlyIncreasing};
-ghost use Rattle.life_ids.specs.Seats.{SeatState, new_seat, next_id, drawn, greatest_drawn, ids_left, IsAlone};
+ghost use Rattle.life_ids.specs.Moments.{TookBatch};
+ghost use Rattle.life_ids.specs.Seats.{SeatState, new_seat, next_id, drawn, greatest_drawn, ids_left, IsAlone, IsFresh};
 
 use crate::ids::{IdsSpent, LifeIds};
 use crate::seat::IdSeat;
@@ -61,6 +62,8 @@ impl IdSource {
         ensures counter { self.new.counter ≡ self.old.counter }
         ensures next { IfOk result (λ id. 0 < self.old.rest → (id ≡ next_id self.old) × (self.new ≡ record self.old { rest = self.old.rest - 1 })) }
         ensures batch { IfOk result (λ id. self.old.rest ≡ 0 → self.new ≡ record self.old { taken = self.old.taken ++ id ∷ []; quota = self.old.quota - 1; rest = 255 }) }
+        ensures fresh { IfOk result (λ id. self.old.rest ≡ 0 → IsFresh id self.old) }
+        ensures moment { IfOk result (λ id. self.old.rest ≡ 0 → TookBatch id self.old self.new) }
         ensures drawn { IfOk result (λ id. drawn self.new ≡ drawn self.old ++ id ∷ []) }
         ensures ascends { IfOk result (λ id. greatest_drawn self.old < id) }
         ensures ascending { IsStrictlyIncreasing (drawn self.new) }

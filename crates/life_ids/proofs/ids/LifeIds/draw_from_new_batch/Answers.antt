@@ -1,8 +1,11 @@
 use Rattle.std.proofs.Common.{◌<◌, ℕ, ap, sym, ◌∙◌, subst, arith}
-use Rattle.life_ids.specs.Seats.{SeatState}
+use Rattle.life_ids.specs.Seats.{SeatState, IsFresh}
+use Rattle.life_ids.specs.Moments.{TookBatch}
 use Rattle.life_ids.proofs.Own.{same_table, same_total}
 use Rattle.life_ids.proofs.Keeps.{may_take}
+use Rattle.life_ids.proofs.Apart.{taken_apart}
 use Rattle.life_ids.proofs.Rests.{from_new_batch}
+use Rattle.life_ids.proofs.Moments.{taken_of_seats}
 use Rattle.life_ids.proofs.ids.LifeIds.draw_from_new_batch.Goals as goal
 
 pub fetch_add-start-requires : goal.fetch_add-start-requires
@@ -31,3 +34,14 @@ returns-clause-ascending c =
     let new = from_new_batch _ _ _ _ _ _ _ _ c.seat.invariant.0 (ap (λ (s : SeatState). s.rest) c.seat.view_is) (ap (λ (s : SeatState). s.quota) c.seat.view_is)
     c.requires.used_up c.requires.quota c.fetch_add-start.ensures.2.0 in
     new.0.ascending
+
+pub returns-clause-fresh : goal.returns-clause-fresh
+unfolding IsFresh
+returns-clause-fresh c = rw (← c.seat.view_is) (taken_apart _ _ _ c.fetch_add-start.ensures.2.0)
+
+pub returns-clause-moment : goal.returns-clause-moment
+unfolding TookBatch
+returns-clause-moment c =
+    let new = from_new_batch _ _ _ _ _ _ _ _ c.seat.invariant.0 (ap (λ (s : SeatState). s.rest) c.seat.view_is) (ap (λ (s : SeatState). s.quota) c.seat.view_is)
+    c.requires.used_up c.requires.quota c.fetch_add-start.ensures.2.0 in
+    rw (← c.seat.view_is) (taken_of_seats _ _ _ _ _ c.seat.invariant.0.quota_is new.0.quota_is c.fetch_add-start.ensures.2.0.moments)
