@@ -33,7 +33,7 @@ next_id seat = first_left seat.rest seat.taken
 abbrev pub greatest_drawn : SeatState → ℕ
 greatest_drawn seat = greatest (drawn seat)
 
--- all ids that no other seat has: of the batches that it took, and of those that came with other seats
+-- all ids of its batches: of those that it took, and of those that came with other seats
 abbrev pub ids_held : SeatState → List ℕ
 ids_held seat = ids_of (seat.taken ++ seat.given)
 

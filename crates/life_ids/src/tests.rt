@@ -1,7 +1,8 @@
 // Worked values: the first ids, what follows where they are spent, and eight threads at once.
 ghost use Rattle.std.specs.Prelude.{◌≡◌, ◌≢◌, ◌≤◌, ◌<◌, ◌^◌, ◌*◌, All, IfSome, IfOk, OnOk, OnErr};
 ghost use Rattle.std.specs.Thread.{IsSync};
-ghost use Rattle.life_ids.specs.Seats.{greatest_drawn};
+ghost use Rattle.std.specs.List.{Contains};
+ghost use Rattle.life_ids.specs.Seats.{drawn, greatest_drawn};
 
 use crate::{IdSeat, IdSource, IdsSpent, LifeIds, NoMemory, ThreadCache, ids_differ};
 use std::alloc::{AllocError, Global};
@@ -173,6 +174,27 @@ fn one_from_each(ids: &LifeIds, first: &mut IdSeat, mut second: IdSeat) -> Optio
     };
     ids.give_back(first, second);
     Some((mine, other))
+}
+
+// An id of a new batch, drawn after the other seat was given back: the other didn't draw it.
+fn draw_after_gift(ids: &LifeIds, seat: &mut IdSeat, other: IdSeat) -> Option<u64>
+    requires own { (seat.old.counter ≡ ids.now) × (other.counter ≡ ids.now) }
+    requires used_up { seat.old.rest ≡ 0 }
+    ensures own { seat.new.counter ≡ ids.now }
+    ensures new { IfSome result (λ id. ¬ Contains (drawn other) id) }
+{
+    ids.give_back(seat, other);
+    let Ok(id) = ids.draw(seat) else { return None };
+    Some(id)
+}
+
+#[test]
+fn what_is_drawn_after_a_gift_is_new(rt: HostRuntime) -> Result<(), Fail> {
+    let (ids, mut seat) = IdSource::new(rt.alloc(), 2)?.into_parts();
+    let mut other = ids.share_quota(&mut seat, 1);
+    assert_eq!(rt; ids.draw(&mut other), Ok(1));
+    assert_eq!(rt; draw_after_gift(&ids, &mut seat, other), Some(257));
+    Ok(())
 }
 
 #[test]
