@@ -133,9 +133,17 @@ module _ {V : Type 0} (m : Meter V) (k : Founding V) (s : State (Option V) (View
         (id, i, one, g, one_there, at_more v.hands w.hands i g (ap (λ (u : View V). get_elem? u.hands i) (sym same) ∙ x.5), x.6, x.7))
         (λ far. (j, i, u, g, set_else firsts other j spent ne ∙ (set_else s.views id j one far ∙ x.4), x.5, x.6, x.7)))
 
+    pasts_both : (a b : View V) → Begins a.seen r.core.joined → Begins b.seen r.core.joined
+        → ((i : ℕ) (nodes : List Node) → get_elem? a.pasts i ≡ some nodes → Begins nodes r.core.joined) → ((i : ℕ) (nodes : List Node) → get_elem? b.pasts i ≡ some nodes → Begins nodes r.core.joined)
+        → (i : ℕ) (nodes : List Node) → get_elem? (both a b).pasts i ≡ some nodes → Begins nodes r.core.joined
+    pasts_both a b p q first second zero nodes e = subst (λ (l : List Node). Begins l r.core.joined) (some-injective a.seen nodes e) p
+    pasts_both a b p q first second (suc zero) nodes e = subst (λ (l : List Node). Begins l r.core.joined) (some-injective b.seen nodes e) q
+    pasts_both a b p q first second (suc (suc i)) nodes e = ⊎_elim (λ t. first i nodes t) (λ t. second t.0 nodes t.2) (at_append a.pasts b.pasts i nodes e)
+
     knows_both : Knows r.core one
     knows_both = let a = r.known id v at in let b = r.known other w at_other in record {
       seen = ⊎_elim (λ e. subst (λ (l : List Node). Begins l r.core.joined) (sym e) a.seen) (λ e. subst (λ (l : List Node). Begins l r.core.joined) (sym e) b.seen) (longer_is v.seen w.seen);
+      pasts = pasts_both v w a.seen b.seen a.pasts b.pasts;
       room = greater-length v.sizes w.sizes (a.room ∙ sym b.room) ∙ a.room;
       sizes = greater-most v.sizes w.sizes (λ slot. (r.core.standing slot).used) a.sizes b.sizes;
     }
@@ -143,6 +151,7 @@ module _ {V : Type 0} (m : Meter V) (k : Founding V) (s : State (Option V) (View
     knows_spent : Knows r.core (spent {V = V})
     knows_spent = record {
       seen = record { short = omega arith; same = λ i n e. absurd (some-ne-none n (sym e)) };
+      pasts = λ i nodes e. absurd (some-ne-none nodes (sym e));
       room = refl;
       sizes = λ slot. let z = zeros 64 slot in omega arith;
     }

@@ -74,7 +74,7 @@ module _ {V : Type 0} (m : Meter V) (k : Founding V) where
     w,
     keeps,
     tt,
-    loaded s 0 id w (reviewed s r id v at alone w refl refl record { seen = begins_itself r.core.joined; room = knows.room; sizes = knows.sizes }),
+    loaded s 0 id w (reviewed s r id v at alone w refl refl record { seen = begins_itself r.core.joined; room = knows.room; pasts = knows.pasts; sizes = knows.sizes }),
     (refl, r.show.head, knows.seen, sees s r id v at alone),
   )
 
@@ -83,7 +83,7 @@ module _ {V : Type 0} (m : Meter V) (k : Founding V) where
     w,
     keeps,
     tt,
-    loaded s word id w (reviewed s r id v at alone w refl refl record { seen = knows.seen; room = knows.room; sizes = knows.sizes }),
+    loaded s word id w (reviewed s r id v at alone w refl refl record { seen = knows.seen; room = knows.room; pasts = knows.pasts; sizes = knows.sizes }),
     (refl, λ i n e is. let there = knows.seen.same i n e in ap (λ (z : ℕ). get_or s.words z 0) is ∙ r.show.nodes i n there ∙ ap (node_word n.caller) (before_begins knows.seen i (let b = at_below v.seen i n e in omega arith))),
   )
 
@@ -135,6 +135,6 @@ module _ {V : Type 0} (m : Meter V) (k : Founding V) where
               noted = λ p e. let there : word < length s.words = (let wide = r.show.wide in let small = own.slot in omega arith) in get_or-set_same s.words word new 0 there ∙ is ∙ ap (node_word h.who) (let same : next_link v ≡ p = cc in same);
               hold = hold_as r.core s.homes h h' h.hold refl refl (λ e. e) own.hold;
             }
-            record { seen = knows.seen; room = knows.room; sizes = knows.sizes },
+            record { seen = knows.seen; room = knows.room; pasts = knows.pasts; sizes = knows.sizes },
         refl,
       )

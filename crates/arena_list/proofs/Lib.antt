@@ -20,3 +20,5 @@ pub mod Making
 pub mod Sums
 pub mod Worked
 pub mod OneList
+pub mod Closing
+pub mod Gathering

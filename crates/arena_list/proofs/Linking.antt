@@ -21,7 +21,7 @@ use Rattle.arena_list.specs.Views.{hand}
 use Rattle.arena_list.specs.Founded.{Meter}
 use Rattle.arena_list.specs.Rule.{Holds, HoldsAt, IsHand}
 use Rattle.arena_list.specs.Steps.{Sat, Sees, looked, joined, next_link, own_node, tried_link}
-use Rattle.arena_list.proofs.Lists.{at_end, at_below, begins_itself, begins_more}
+use Rattle.arena_list.proofs.Lists.{at_end, at_below, begins_itself, begins_on, begins_more}
 use Rattle.arena_list.proofs.Few.{few_nodes, listed_more, callers_more}
 use Rattle.arena_list.proofs.Links.{before_begins, one_head, begins_whole}
 use Rattle.arena_list.proofs.Moved.{Moves, moved}
@@ -93,7 +93,7 @@ module _ {V : Type 0} (m : Meter V) (k : Founding V) where
           noted = λ p e. absurd (none-some p e);
           hold = hold_as m k (core more r.core.standing) s.homes h linked_hand h.hold refl refl (λ e. refl) (hold_in h.hold own.hold);
         }
-        record { seen = subst (λ (l : List Node). Begins l more) (sym appended) (begins_itself more); room = knows.room; sizes = knows.sizes } where
+        record { seen = subst (λ (l : List Node). Begins l more) (sym appended) (begins_itself more); room = knows.room; pasts = λ i nodes e. begins_on (knows.pasts i nodes e) (begins_more J (own_node v ∷ [])); sizes = knows.sizes } where
           hold_in : (x : Hold V) → HoldsAt m k.life r.core s.homes h x → HoldsAt m k.life (core more r.core.standing) s.homes h x
           hold_in Vacant x = x
           hold_in Filling x = x
@@ -129,7 +129,7 @@ module _ {V : Type 0} (m : Meter V) (k : Founding V) where
         keeps,
         tt,
         subst (λ (b : Bool). Holds m k (stepped s 0 (either b new n) id me.1 w keeps)) (sym (ne_eqb n old miss))
-            (loaded m k s 0 id w (reviewed m k s r id v at alone w refl refl record { seen = begins_itself r.core.joined; room = knows.room; sizes = knows.sizes })),
+            (loaded m k s 0 id w (reviewed m k s r id v at alone w refl refl record { seen = begins_itself r.core.joined; room = knows.room; pasts = knows.pasts; sizes = knows.sizes })),
         ((λ hit. absurd (miss hit)), λ _. ((refl, r.show.head, knows.seen, sees m k s r id v at alone), longer_by s r id v at miss is_old)),
       )) where
         longer_by : (s : St) (r : Holds m k s) (id : ℕ) (v : View V) → get_elem? s.views id ≡ some v → get_or s.words 0 0 ≢ old → old ≡ head_of v.seen → length v.seen < length r.core.joined

@@ -60,6 +60,7 @@ module _ {V : Type 0} (m : Meter V) (life : ℕ) where
     pub knows_moves : (v : View V) → Knows c v → Knows c' v
     knows_moves v o = record {
       seen = begins_on o.seen step.grows;
+      pasts = λ i nodes e. begins_on (o.pasts i nodes e) step.grows;
       room = o.room;
       sizes = λ slot. dite (ℕ_discrete slot h.slot)
           (λ e. let a : slice_index v.sizes h.slot ≤ (c.standing h.slot).used = o.sizes h.slot in let b = step.used in

@@ -332,7 +332,7 @@ module _ {V : Type 0} (m : Meter V) (k : Founding V) (words : List ℕ) (fit : A
         fit.linked_once i j q.0.caller (at_map caller linked i p.0 p.1 ∙ ap (λ (z : ℕ). some z) (ap (λ (n : Node). n.caller) p.2 ∙ same ∙ ap (λ (n : Node). n.caller) (sym q.2))) (at_map caller linked j q.0 q.1);
     hands = λ j i u h a b. let only = at_only v u j a in let here : get_elem? (map (hand_for k) callers) i ≡ some h = ap (λ (u : View V). get_elem? u.hands i) only.1 ∙ b in let q = at_mapped (hand_for k) callers i h here in
         (ap (λ (u : View V). u.base) (sym only.1), subst (λ (z : ℕ × Hand V). IsHand m k.life c words homes holder place z.0 i z.1) (λ x. (sym only.0 x, q.2 x)) (fresh_hand i q.0 q.1));
-    known = λ j u a. subst (λ (u : View V). Knows c u) (at_only v u j a).1 record { seen = begins_itself (map node_of linked); room = refl; sizes = λ s. let z = zeros 64 s in omega arith };
+    known = λ j u a. subst (λ (u : View V). Knows c u) (at_only v u j a).1 record { seen = begins_itself (map node_of linked); room = refl; pasts = λ i nodes e. absurd (some-ne-none nodes (sym e)); sizes = λ s. let z = zeros 64 s in omega arith };
     wards = λ i e a. let p = filter_tells (λ e. not (has callers e.caller)) linked i e a in let there = in_linked p.0 e p.1 in record {
       slot = fit.small p.0 e there;
       held = held_at all fit.slots p.0 e there;

@@ -157,8 +157,8 @@ module _ {V : Type 0} (m : Meter V) (k : Founding V) (s : State (Option V) (View
       callers = r.callers;
       hands = split_hands;
       known = λ j u a. ⊎_elim
-          (λ t. ⊎_elim (λ p. subst (λ (u : View V). Knows r.core u) p.1 record { seen = knows.seen; room = knows.room; sizes = knows.sizes }) (λ p. r.known j u p.1) (at_set s.views id j left u t))
-          (λ t. subst (λ (u : View V). Knows r.core u) t.1 record { seen = knows.seen; room = knows.room; sizes = knows.sizes })
+          (λ t. ⊎_elim (λ p. subst (λ (u : View V). Knows r.core u) p.1 record { seen = knows.seen; room = knows.room; pasts = knows.pasts; sizes = knows.sizes }) (λ p. r.known j u p.1) (at_set s.views id j left u t))
+          (λ t. subst (λ (u : View V). Knows r.core u) t.1 record { seen = knows.seen; room = knows.room; pasts = knows.pasts; sizes = knows.sizes })
           (at_end lefts right u j a);
       wards = λ i e a. let old = r.wards i e a in replaced_ward m k.life r.core s.words s.homes r.holder r.place place' e
           (split_none id n h.who r.place e.caller (λ same. some-ne-none _ (sym own.1.here ∙ ap r.place (sym same) ∙ old.no_seat)) old.no_seat) old;

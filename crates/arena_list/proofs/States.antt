@@ -108,10 +108,11 @@ module _ {V : Type 0} (m : Meter V) (k : Founding V) where
     }
 
     -- what the seat saw stays at most what is shown
-    knows_after : (x : Standing) (w : View V) → (r.core.standing h.slot).used ≤ x.used → w.seen ≡ v.seen → length w.sizes ≡ 64 → ((slot : ℕ) → slot ≢ h.slot → slice_index w.sizes slot ≡ slice_index v.sizes slot) → slice_index w.sizes h.slot ≤ x.used → Knows (after x) w
+    knows_after : (x : Standing) (w : View V) → (r.core.standing h.slot).used ≤ x.used → w.seen ≡ v.seen → w.pasts ≡ v.pasts → length w.sizes ≡ 64 → ((slot : ℕ) → slot ≢ h.slot → slice_index w.sizes slot ≡ slice_index v.sizes slot) → slice_index w.sizes h.slot ≤ x.used → Knows (after x) w
     unfolding after
-    knows_after x w more seen room others here = let knows = r.known id v at in record {
+    knows_after x w more seen pasts room others here = let knows = r.known id v at in record {
       seen = subst (λ (l : List Node). Begins l r.core.joined) (sym seen) knows.seen;
+      pasts = λ i nodes e. knows.pasts i nodes (ap (λ (l : List (List Node)). get_elem? l i) (sym pasts) ∙ e);
       room = room;
       sizes = λ slot. dite (ℕ_discrete slot h.slot)
           (λ e. subst (λ (y : Standing). slice_index w.sizes slot ≤ y.used) (sym (upd_here r.core.standing h.slot slot x e)) (subst (λ (z : ℕ). slice_index w.sizes z ≤ x.used) (sym e) here))
@@ -137,7 +138,7 @@ module _ {V : Type 0} (m : Meter V) (k : Founding V) where
         moved m k s r id v w h (record h { hold = Away (m.used part) }) at (hands_are v.hands alone) refl refl refl refl (after s r id v at alone x) (set s.words (state_at h.slot) new) hs
             (restated s r id v at alone x new hs (is ∙ (let z : 2 * m.used part ≡ 2 * m.used part + 0 = omega arith in z)) more (length-set s.homes h.slot none ∙ r.slots) (λ slot ne. set_else s.homes h.slot slot none ne))
             (rehold s r id v at alone x new hs (Away (m.used part)) (standing_after s r id v at alone x, linked))
-            (knows_after s r id v at alone x w more refl knows.room (λ slot ne. refl) (let a = knows.sizes h.slot in omega arith)),
+            (knows_after s r id v at alone x w more refl refl knows.room (λ slot ne. refl) (let a = knows.sizes h.slot in omega arith)),
         λ other there. let same : part ≡ other = rests_one part other (sym rests_there ∙ there) in ap (λ (p : V). (held v (Away (m.used p)), (h.slot, Some p) ∷ me.1)) same,
       )
 
@@ -162,7 +163,7 @@ module _ {V : Type 0} (m : Meter V) (k : Founding V) where
               slots = length-set s.homes h.slot none ∙ r.slots;
             }
             record { here = o.here; slot = o.slot; held = o.held; linked = o.linked; spare = o.spare; noted = o.noted; hold = hold.0 }
-            record { seen = knows.seen; room = knows.room; sizes = knows.sizes }),
+            record { seen = knows.seen; room = knows.room; pasts = knows.pasts; sizes = knows.sizes }),
         refl,
       )
 
@@ -182,7 +183,7 @@ module _ {V : Type 0} (m : Meter V) (k : Founding V) where
             (moved m k s r id v w h (record h { hold = Rests part }) at (hands_are v.hands alone) refl refl refl refl (after s r id v at alone x) (set s.words (state_at h.slot) new) hs
             (restated s r id v at alone x new hs is grown (length-set s.homes h.slot (some (Some part)) ∙ r.slots) (λ slot ne. set_else s.homes h.slot slot (some (Some part)) ne))
             (rehold s r id v at alone x new hs (Rests part) (standing_after s r id v at alone x, set_here s.homes h.slot (some (Some part)) within, fits))
-            (knows_after s r id v at alone x w grown refl (length-set v.sizes h.slot (m.used part) ∙ knows.room) (λ slot ne. get_or-set_other v.sizes h.slot slot (m.used part) 0 ne)
+            (knows_after s r id v at alone x w grown refl refl (length-set v.sizes h.slot (m.used part) ∙ knows.room) (λ slot ne. get_or-set_other v.sizes h.slot slot (m.used part) 0 ne)
             (let e = get_or-set_same v.sizes h.slot (m.used part) 0 room in omega arith))),
         λ other rest there. let same : ((h.slot, Some part) ∷ out) ≡ ((h.slot, Some other) ∷ rest) = sym has ∙ there in let heads : ◌≡◌ {A = ℕ × Option V} (h.slot, Some part) (h.slot, Some other) = cc in let inner : Some part ≡ Some other = ap (λ (z : ℕ × Option V). z.1) heads in let p : part ≡ other = cc in let q : out ≡ rest = cc in (
           subst (λ (c : List (ℕ × Option V)). ◌≡◌ {A = Sat V} (w, rest_of_slots c) (settled m v other, rest)) (sym has) (λ i. (settled m v (p i), q i)),
@@ -200,6 +201,7 @@ module _ {V : Type 0} (m : Meter V) (k : Founding V) where
         tt,
         loaded m k s (state_at slot) id w (reviewed m k s r id v at alone w refl refl record {
           seen = knows.seen;
+          pasts = knows.pasts;
           room = length-set v.sizes slot (word / 2) ∙ knows.room;
           sizes = λ j. dite (ℕ_discrete j slot)
               (λ e. subst (λ (z : ℕ). slice_index (set v.sizes slot (word / 2)) z ≤ (r.core.standing z).used) (sym e) (let t = get_or-set_same v.sizes slot (word / 2) 0 room in omega arith))

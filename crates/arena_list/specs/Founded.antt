@@ -78,7 +78,7 @@ module _ {V : Type 0} where
   hand_for k who = hand_from k.linked.items k.spare.items who
 
   abbrev pub first_view : Founding V → View V
-  first_view k = record { hands = map (hand_for k) k.callers.items; seen = map node_of k.linked.items; list_steps = 0; sizes = replicate 64 0; base = base k }
+  first_view k = record { hands = map (hand_for k) k.callers.items; seen = map node_of k.linked.items; list_steps = 0; sizes = replicate 64 0; base = base k; pasts = [] }
 
   -- a part fits its slot: it has the caller as its owner, this life, and a used sum that a word can show
   pub record Fits (m : Meter V) (life who : ℕ) (part : V) : Type 0 where

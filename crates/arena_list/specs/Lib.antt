@@ -8,3 +8,4 @@ pub mod Steps
 pub mod Calls
 pub mod Seats
 pub mod Made
+pub mod Closed

@@ -43,9 +43,10 @@ module _ {V : Type 0} where
     pub noted : (previous : ℕ) → h.noted ≡ Some previous → slice_index words (node_at h.slot) ≡ node_word h.who previous
     pub hold : HoldsAt m life c homes h h.hold
 
-  -- what a seat has seen of the list begins it, and no used sum that it saw is more than its slot's now
+  -- what a seat has seen of the list begins it, so does what the seats joined into it had seen, and no used sum that it saw is more than its slot's now
   pub record Knows (c : Core) (v : View V) : Type 0 where
     pub seen : Begins v.seen c.joined
+    pub pasts : (i : ℕ) (nodes : List Node) → get_elem? v.pasts i ≡ some nodes → Begins nodes c.joined
     pub room : length v.sizes ≡ 64
     pub sizes : (slot : ℕ) → slice_index v.sizes slot ≤ (c.standing slot).used
 

@@ -135,10 +135,10 @@ module _ {V : Type 0} where
   undealt v = record v { hands = rest_of v.hands }
 
   abbrev pub both : View V → View V → View V
-  both v w = record { hands = v.hands ++ w.hands; seen = longer v.seen w.seen; list_steps = v.list_steps + w.list_steps; sizes = greater v.sizes w.sizes; base = v.base }
+  both v w = record { hands = v.hands ++ w.hands; seen = longer v.seen w.seen; list_steps = v.list_steps + w.list_steps; sizes = greater v.sizes w.sizes; base = v.base; pasts = v.seen ∷ w.seen ∷ (v.pasts ++ w.pasts) }
 
   abbrev pub spent : View V
-  spent = record { hands = []; seen = []; list_steps = 0; sizes = replicate 64 0; base = record { callers = []; others = [] } }
+  spent = record { hands = []; seen = []; list_steps = 0; sizes = replicate 64 0; base = record { callers = []; others = [] }; pasts = [] }
 
 -- What a seat keeps beside its view is what its view says: of its one caller, of the caller's slot and its used sum, and of the head
 pub record IsSeated {V : Type 0} (m : Meter V) (caller slot : ℕ) (linked : Bool) (used head : ℕ) (me : Sat V) : Type 0 where

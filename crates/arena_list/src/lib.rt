@@ -5,6 +5,7 @@
 //! or beside it, and a value is in its slot or out with the one seat whose slot it is. No call waits.
 #![tactic(auto)]
 
+mod close;
 mod entry;
 mod founding;
 mod laws;

@@ -45,4 +45,6 @@ pub struct View<V> {
     pub list_steps: u64,
     pub sizes: LinkedList<u64>,
     pub base: Base<V>,
+    /// What the seats that were joined into this one had seen of the list.
+    pub pasts: LinkedList<LinkedList<Node>>,
 }

@@ -1,0 +1,119 @@
+//! A list is closed: all seats come back, and so does every value.
+ghost use Rattle.std.specs.Prelude.{◌≡◌, ℕ, ◌+◌, ◌<◌, ◌≤◌, ◌++◌, ◌∷◌, [], false, length, map, reverse, slice_index_or, vec_capacity, IfOk, None};
+ghost use Rattle.std.specs.Slots.{slots_items, slots_filled, slots_len, IsFull};
+ghost use mathlib.Core.Option.{some};
+ghost use lib.ListN.{get_elem?};
+ghost use Rattle.arena_list.specs.Seats.{view};
+ghost use Rattle.arena_list.specs.Closed.{HasTold, Rested, hand_of, slots_of};
+
+use crate::entry::Entry;
+use crate::list::{ListSeat, Words};
+use crate::plays::Gather;
+use crate::view::View;
+use arena_mem::{NoMemory, Part};
+use atomic_table::{Closed, Seat};
+use std::alloc::Global;
+
+/// How many slots a list has.
+const SLOTS: usize = 64;
+
+/// What closing a list needs room for.
+struct Rooms<V: Part> {
+    linked: Vec<Entry<V>>,
+    spare: Vec<Entry<V>>,
+    // The slots and callers of the spare entries, the last first.
+    spare_slots: Vec<(u32, u32)>,
+    parts: Vec<Option<V>>,
+}
+
+fn make_rooms<V: Part>(alloc: Global, seats: usize) -> Result<Rooms<V>, NoMemory>
+    ensures empty { IfOk result (λ r. (r.linked.items ≡ []) × (r.spare.items ≡ []) × (r.spare_slots.items ≡ []) × (r.parts.items ≡ [])) }
+    ensures room { IfOk result (λ r. (64 ≤ vec_capacity r.linked) × (seats ≤ vec_capacity r.spare) × (seats ≤ vec_capacity r.spare_slots) × (64 ≤ vec_capacity r.parts)) }
+{
+    let spare_slots = Vec::with_capacity(alloc, seats)?;
+    let linked = Vec::with_capacity(alloc, SLOTS)?;
+    let Ok(spare) = Vec::with_capacity(alloc, seats) else {
+        linked.destroy_empty();
+        return Err(NoMemory);
+    };
+    let Ok(parts) = Vec::with_capacity(alloc, SLOTS) else {
+        linked.destroy_empty();
+        spare.destroy_empty();
+        return Err(NoMemory);
+    };
+    Ok(Rooms {
+        linked,
+        spare,
+        spare_slots,
+        parts,
+    })
+}
+
+/// Notes the slot of a seat that never joined the list.
+fn note<V: Part>(spare_slots: &mut Vec<(u32, u32)>, seat: &ListSeat<V>)
+    requires room { length spare_slots.old.items < vec_capacity spare_slots.old }
+    ensures items { spare_slots.new.items ≡ spare_slots.old.items ++ slots_of (seat.now ∷ []) }
+    ensures room { vec_capacity spare_slots.old ≤ vec_capacity spare_slots.new }
+{
+    if !seat.linked {
+        if let Err(_) = spare_slots.push((seat.slot, seat.caller)) {
+            unreachable!();
+        }
+    }
+}
+
+/// Joins all seats into one, and notes the slots of those that never joined the list, the last first.
+fn gather<V: Part>(
+    words: &Words<V>,
+    mut seats: Vec<ListSeat<V>>,
+    spare_slots: &mut Vec<(u32, u32)>,
+) -> Seat<Option<V>, View<V>>
+    requires words { words.now.table_id.words ≡ 592 }
+    requires some { 0 < length seats.items }
+    requires list { (k : ℕ) (s : _) → get_elem? seats.items k ≡ some s → s.seat.table_id ≡ words.now.table_id }
+    requires rested { (k : ℕ) (s : _) → get_elem? seats.items k ≡ some s → Rested s }
+    requires room { (spare_slots.old.items ≡ []) × (length seats.items ≤ vec_capacity spare_slots.old) }
+    ensures list { result.table_id ≡ words.now.table_id }
+    ensures hands { result.me.0.hands ≡ reverse (map hand_of seats.items) }
+    ensures free { result.me.1 ≡ [] }
+    ensures told { (k : ℕ) (s : _) → get_elem? seats.items k ≡ some s → HasTold result.me.0 (view s).seen }
+    ensures slots { spare_slots.new.items ≡ reverse (slots_of seats.items) }
+{
+    let Some(last) = seats.pop() else {
+        unreachable!()
+    };
+    note(spare_slots, &last);
+    let mut all = last.seat;
+    while let Some(next) = seats.pop() {
+        note(spare_slots, &next);
+        words.join_seat::<Gather>(&mut all, next.seat);
+    }
+    seats.destroy_empty();
+    all
+}
+
+/// Takes the values out of all slots of a closed table, in order.
+fn empty<V: Part>(closed: &mut Closed<Option<V>, Global>, parts: &mut Vec<Option<V>>)
+    requires full { IsFull closed.old.slots × (slots_len closed.old.slots ≡ 64) }
+    requires room { (parts.old.items ≡ []) × (64 ≤ vec_capacity parts.old) }
+    ensures parts { (k : ℕ) (x : _) → get_elem? parts.new.items k ≡ some x → get_elem? (slots_items closed.old.slots) k ≡ some x }
+    ensures count { length parts.new.items ≡ 64 }
+    ensures free { (k : ℕ) → k < slots_len closed.new.slots → slice_index_or (slots_filled closed.new.slots) k false ≡ false }
+    ensures words { closed.new.words ≡ closed.old.words }
+{
+    for slot in 0..SLOTS {
+        if let Err(_) = parts.push(closed.take(slot)) {
+            unreachable!();
+        }
+    }
+}
+
+/// Frees parts of which none is left.
+fn free_parts<V: Part>(mut parts: Vec<Option<V>>)
+    requires { (k : ℕ) (x : _) → get_elem? parts.items k ≡ some x → x ≡ None }
+{
+    while let Some(part) = parts.pop() {
+        let None = part else { unreachable!() };
+    }
+    parts.destroy_empty();
+}
