@@ -1,4 +1,5 @@
-//! A list is closed: all seats come back, and so does every value.
+//! What the closing of a list will stand on: all seats joined into one, and the values taken out of their slots.
+//! Nothing calls it yet.
 ghost use Rattle.std.specs.Prelude.{◌≡◌, ℕ, ◌+◌, ◌<◌, ◌≤◌, ◌++◌, ◌∷◌, [], false, length, map, reverse, slice_index_or, vec_capacity, IfOk, None};
 ghost use Rattle.std.specs.Slots.{slots_items, slots_filled, slots_len, IsFull};
 ghost use mathlib.Core.Option.{some};
