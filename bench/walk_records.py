@@ -11,6 +11,9 @@ import sys
 import tempfile
 from pathlib import Path
 
+sys.dont_write_bytecode = True
+from make_ticks import varint
+
 TOP = Path(__file__).resolve().parent.parent
 PROGRAM = '''//! Walks all records of all frames of a file.
 #![tactic(auto)]
@@ -54,15 +57,6 @@ fn main(rt: HostRuntime) -> Result<(), anyhow::Error> {
     Ok(())
 }
 '''
-
-
-def varint(value):
-    out = bytearray()
-    while value >= 128:
-        out.append(value % 128 + 128)
-        value //= 128
-    out.append(value)
-    return out
 
 
 def frame(draw):
