@@ -1,14 +1,15 @@
 -- Reading varints at a place of the bytes.
-use Rattle.std.proofs.Common.{◌≡◌, ◌⊎◌, ◌+◌, ◌-◌, ◌*◌, ◌%◌, ◌^◌, ◌<◌, ◌≤◌, ℕ, List, length, get_or, take, drop, Option, None, Some, Ok, Err, min, refl, sym, ap, ◌∙◌, inl, inr, ⊎_elim, length-drop, arith}
+use Rattle.std.proofs.Common.{◌≡◌, ◌⊎◌, ◌+◌, ◌-◌, ◌*◌, ◌%◌, ◌^◌, ◌<◌, ◌≤◌, ℕ, List, length, get_or, take, drop, Option, None, Some, Ok, Err, min, refl, sym, ap, ◌∙◌, inl, inr, ⊎_elim, ltb, if◌then◌else◌, length-drop, arith}
 use Rattle.std.proofs.Math.Nat.{add-mod}
 use Rattle.std.proofs.lemmas.Bool.{cases_lt}
 use Rattle.std.proofs.lemmas.List.{get_or-drop}
 use Rattle.std.proofs.lemmas.Option.{none-some, same_Some}
+use Rattle.pb_schema.specs.declared.wire_fault.WireKind.TheVariants.{Cut, LongVarint}
 use Rattle.pb_schema.specs.Varint.{seven_bits, varint_at}
 use Rattle.pb_schema.specs.Form.{read_varint}
 use Rattle.pb_schema.proofs.Steps.{ContinuedTo, continued_none, continued_more, continued_value, continued_cut, continued_long, seven_bits_more}
 use Rattle.pb_schema.proofs.FormLaws.{read_varint_some, read_varint_none}
-use Rattle.pb_wire.specs.Placed.{found_from, moved, kind_of}
+use Rattle.pb_wire.specs.Placed.{found_from, moved}
 
 -- what was found, counted from the start of all bytes
 moved_found : (start most : ℕ) (s : List ℕ) (v n end : ℕ) → varint_at most s ≡ Some (v, n) → end ≡ start + n → Some (v, end) ≡ found_from start (varint_at most s)
@@ -28,9 +29,9 @@ none_from : (o : Option (ℕ × ℕ)) (start : ℕ) → None ≡ found_from star
 none_from None start e = refl
 none_from (Some x) start e = absurd (none-some (x.0, start + x.1) e)
 
-pub none_read : (bytes : List ℕ) (start most : ℕ) → None ≡ found_from start (varint_at most (drop start bytes)) → Err (record { kind = kind_of (length bytes - start) most; byte = start }) ≡ moved start (read_varint most start (drop start bytes))
+pub none_read : (bytes : List ℕ) (start most : ℕ) → None ≡ found_from start (varint_at most (drop start bytes)) → Err (record { kind = if ltb (length bytes - start) most then Cut else LongVarint; byte = start }) ≡ moved start (read_varint most start (drop start bytes))
 none_read bytes start most e =
-    ap (λ n. Err (record { kind = kind_of n most; byte = start })) (sym (length-drop start bytes))
+    ap (λ n. Err (record { kind = if ltb n most then Cut else LongVarint; byte = start })) (sym (length-drop start bytes))
     ∙ sym (ap (moved start) (read_varint_none most start (drop start bytes) (none_from (varint_at most (drop start bytes)) start e)))
 
 -- one byte more of a varint, modulo 2 ^ 64

@@ -1,8 +1,6 @@
 -- What is found at a place of some bytes, with its end counted from their start. The definitions count from the place.
-use Rattle.std.specs.Prelude.{◌+◌, ℕ, Option, Result, nat_lt, if◌then◌else◌}
+use Rattle.std.specs.Prelude.{◌+◌, ℕ, Option, Result}
 use Rattle.std.specs.Option.{option_map}
-use Rattle.pb_schema.specs.declared.wire_fault.WireKind.{WireKind}
-use Rattle.pb_schema.specs.declared.wire_fault.WireKind.TheVariants.{Cut, LongVarint}
 use Rattle.pb_schema.specs.declared.wire_fault.WireFault.{WireFault}
 use Rattle.pb_schema.specs.Reads.{read_map}
 
@@ -17,10 +15,6 @@ moved start r = read_map (λ found. (found.0, start + found.1)) r
 -- a tag's number and wire type, and the byte behind it
 abbrev pub moved_tag : ℕ → Result (ℕ × ℕ × ℕ) WireFault → Result (ℕ × ℕ × ℕ) WireFault
 moved_tag start r = read_map (λ tag. (tag.0, tag.1, start + tag.2)) r
-
--- what is wrong where so many bytes are there, all of which go on, of the most that may be
-abbrev pub kind_of : ℕ → ℕ → WireKind
-kind_of there most = if nat_lt there most then Cut else LongVarint
 
 -- a payload's place, and its length
 abbrev pub moved_part : ℕ → Result (ℕ × ℕ) WireFault → Result (ℕ × ℕ) WireFault

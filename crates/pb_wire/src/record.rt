@@ -8,7 +8,7 @@ ghost use Rattle.pb_wire.specs.Placed.{moved, moved_part};
 ghost use Rattle.pb_wire.specs.PlacedRecord.{placed};
 
 use crate::tag::{LENGTH_BYTES, read_tag};
-use crate::varint::{VALUE_BYTES, read_within};
+use crate::varint::{VALUE_BYTES, find_varint, varint_fault};
 use crate::wire_record::WireRecord;
 use pb_schema::{WireFault, WireKind};
 
@@ -56,14 +56,16 @@ fn read_length(bytes: &[u8], start: u32) -> Result<(u32, u32), WireFault>
     ensures exact { result ≡ moved start (length_read start (drop start bytes.now)) }
     ensures bound { IfOk result (λ len. (start < len.1) × (len.1 ≤ length bytes.now)) }
 {
-    let (len, end) = read_within(bytes, start, LENGTH_BYTES)?;
+    let Some((len, end)) = find_varint(bytes, start as usize, LENGTH_BYTES) else {
+        return Err(varint_fault(bytes, start, LENGTH_BYTES));
+    };
     if len >= LENGTH_END {
         return Err(WireFault {
             kind: WireKind::BadLength,
             byte: start,
         });
     }
-    Ok((len as u32, end))
+    Ok((len as u32, end as u32))
 }
 
 // The payload behind a tag of a wire type: its place and its length. The tags of a group have none.
@@ -76,8 +78,10 @@ fn read_payload(bytes: &[u8], at: u32, wire: u8) -> Result<(u32, u32), WireFault
 {
     match wire {
         VARINT => {
-            let (_, end) = read_within(bytes, at, VALUE_BYTES)?;
-            Ok((at, end - at))
+            let Some((_, end)) = find_varint(bytes, at as usize, VALUE_BYTES) else {
+                return Err(varint_fault(bytes, at, VALUE_BYTES));
+            };
+            Ok((at, end as u32 - at))
         }
         DELIMITED => {
             let (len, payload) = read_length(bytes, at)?;
@@ -90,7 +94,8 @@ fn read_payload(bytes: &[u8], at: u32, wire: u8) -> Result<(u32, u32), WireFault
 }
 
 // The form of the record at `start`: of the start and the end of a group the tag alone, of any other the whole record.
-#[inline]
+// It is inlined for speed: the result of a call goes through memory.
+#[inline(always)]
 fn read_form(bytes: &[u8], start: u32) -> Result<WireRecord, WireFault>
     requires start { start ≤ length bytes.now }
     requires short { length bytes.now < 2 ^ 31 }

@@ -5,7 +5,7 @@ ghost use Rattle.pb_schema.specs.Tag.{tag_of};
 ghost use Rattle.pb_schema.specs.Form.{read_tag as tag_read};
 ghost use Rattle.pb_wire.specs.Placed.{moved_tag};
 
-use crate::varint::{read_within, write_varint};
+use crate::varint::{find_varint, varint_fault, write_varint};
 use pb_schema::{WireFault, WireKind};
 
 /// The most bytes of a tag.
@@ -31,7 +31,9 @@ pub fn read_tag(bytes: &[u8], start: u32) -> Result<(u32, u8, u32), WireFault>
     ensures exact { result ≡ moved_tag start (tag_read start (drop start bytes.now)) }
     ensures bound { IfOk result (λ tag. (start < tag.2) × (tag.2 ≤ length bytes.now)) }
 {
-    let (tag, end) = read_within(bytes, start, TAG_BYTES)?;
+    let Some((tag, end)) = find_varint(bytes, start as usize, TAG_BYTES) else {
+        return Err(varint_fault(bytes, start, TAG_BYTES));
+    };
     let wire = tag % WIRE_TYPES;
     if tag >= TAG_END || tag < WIRE_TYPES || wire > LAST_WIRE_TYPE {
         return Err(WireFault {
@@ -39,7 +41,7 @@ pub fn read_tag(bytes: &[u8], start: u32) -> Result<(u32, u8, u32), WireFault>
             byte: start,
         });
     }
-    Ok(((tag / WIRE_TYPES) as u32, wire as u8, end))
+    Ok(((tag / WIRE_TYPES) as u32, wire as u8, end as u32))
 }
 
 /// Writes the shortest tag of a field's number and a wire type to the front of the room, and answers how many bytes it

@@ -2,7 +2,7 @@
 ghost use Rattle.std.specs.Prelude.{◌≡◌, ◌+◌, ◌*◌, ◌^◌, ◌<◌, ◌≤◌, ℕ, length, take, drop, IfOk, IfSome};
 ghost use Rattle.pb_schema.specs.Varint.{value_bytes, varint_at, varint_of};
 ghost use Rattle.pb_schema.specs.Form.{read_varint as varint_read};
-ghost use Rattle.pb_wire.specs.Placed.{moved, found_from, kind_of};
+ghost use Rattle.pb_wire.specs.Placed.{moved, found_from};
 
 use pb_schema::{WireFault, WireKind};
 
@@ -16,27 +16,26 @@ pub fn read_varint(bytes: &[u8], start: u32) -> Result<(u64, u32), WireFault>
     ensures exact { result ≡ moved start (varint_read value_bytes start (drop start bytes.now)) }
     ensures bound { IfOk result (λ found. (start < found.1) × (found.1 ≤ length bytes.now)) }
 {
-    read_within(bytes, start, VALUE_BYTES)
+    match find_varint(bytes, start as usize, VALUE_BYTES) {
+        Some((value, end)) => Ok((value, end as u32)),
+        None => Err(varint_fault(bytes, start, VALUE_BYTES)),
+    }
 }
 
-// The varint of at most `most` bytes at `start`, and the place behind it; or what is wrong with it.
-#[inline]
-pub(crate) fn read_within(bytes: &[u8], start: u32, most: usize) -> Result<(u64, u32), WireFault>
+// What is wrong at `start`, where no varint of at most `most` bytes ends. It is asked for only where `find_varint` found
+// none: a `Result` of a value of 64 bits or a fault goes through memory, and that takes longer than a short varint.
+pub(crate) fn varint_fault(bytes: &[u8], start: u32, most: usize) -> WireFault
     requires start { start ≤ length bytes.now }
-    requires short { length bytes.now < 2 ^ 31 }
-    requires some { 2 ≤ most }
-    requires most { most ≤ 10 }
-    ensures exact { result ≡ moved start (varint_read most start (drop start bytes.now)) }
-    ensures bound { IfOk result (λ found. (start < found.1) × (found.1 ≤ length bytes.now)) }
+    requires none { None ≡ found_from start (varint_at most (drop start bytes.now)) }
+    ensures { Err result ≡ moved start (varint_read most start (drop start bytes.now)) }
 {
-    let at = start as usize;
-    match find_varint(bytes, at, most) {
-        Some((value, end)) => Ok((value, end as u32)),
-        None => Err(WireFault {
-            kind: fault_of(bytes.len() - at, most),
-            byte: start,
-        }),
-    }
+    let there = bytes.len() - start as usize;
+    let kind = if there < most {
+        WireKind::Cut
+    } else {
+        WireKind::LongVarint
+    };
+    WireFault { kind, byte: start }
 }
 
 // The varint of at most `most` bytes at `start`, and the place behind it; none where no such varint ends.
@@ -77,17 +76,6 @@ fn find_long(bytes: &[u8], start: usize, most: usize) -> Option<(u64, usize)>
         }
     }
     None
-}
-
-// What is wrong where `there` bytes go on, of `most` that may.
-fn fault_of(there: usize, most: usize) -> WireKind
-    ensures { result ≡ kind_of there most }
-{
-    if there < most {
-        WireKind::Cut
-    } else {
-        WireKind::LongVarint
-    }
 }
 
 /// How many bytes the shortest varint of a value has.
