@@ -1,5 +1,6 @@
 -- Reading frames at a place of the bytes, one after another.
-use Rattle.std.proofs.Common.{◌≡◌, ◌+◌, ◌-◌, ◌^◌, ◌<◌, ◌≤◌, ℕ, suc, List, [], ◌∷◌, ◌++◌, length, take, drop, Option, None, Some, Result, Ok, Err, refl, sym, ap, ◌∙◌, ⊎_elim, ltb, leb, length-append, length-drop, drop-drop, append-nil, arith}
+use Rattle.std.proofs.Common.{◌≡◌, ◌+◌, ◌-◌, ◌^◌, ◌<◌, ◌≤◌, ℕ, suc, List, [], ◌∷◌, ◌++◌, length, take, drop, Option, None, Some, Result, Ok, Err, refl, sym, ap, ◌∙◌, subst, ⊎_elim, ltb, leb, length-append, length-drop, drop-drop, append-nil, arith}
+use Rattle.std.specs.Prelude.{IsSome}
 use Rattle.std.proofs.lemmas.Bool.{lt-ltb, le-ltb, le-leb, lt-leb, cond-true, cond-false}
 use Rattle.std.proofs.lemmas.Option.{none-some, same_Some}
 use Rattle.pb_schema.specs.Varint.{varint_at, length_bytes}
@@ -8,7 +9,7 @@ use Rattle.pb_schema.proofs.Steps.{frame_at_whole, frames_more, frames_cut, fram
 use Rattle.pb_schema.proofs.FrameLaws.{cases_option}
 use Rattle.pb_wire.specs.declared.frame_fault.FrameFault.TheVariants.{FrameCut, TooManyFrames}
 use Rattle.pb_wire.specs.Placed.{found_from}
-use Rattle.pb_wire.specs.FramePlaces.{frame_from}
+use Rattle.pb_wire.specs.FramePlaces.{frame_from, Begins}
 use Rattle.pb_wire.specs.FrameAnswers.{answer_from, answer_of, most_frames}
 
 -- what was found, counted from where it stands
@@ -39,6 +40,10 @@ frame_found (Some p) start payload end e = found_there (Some p) start payload en
 pub no_frame_found : (found : Option (List ℕ × ℕ)) (start : ℕ) → None ≡ frame_from start found → found ≡ None
 no_frame_found None start e = refl
 no_frame_found (Some p) start e = absurd (none-some (p.0, start + p.1) e)
+
+-- a frame that was found begins where it was looked for
+pub begins : (bytes : List ℕ) (start : ℕ) (frame : List ℕ × ℕ) → start ≤ length bytes → frame_at (drop start bytes) ≡ Some frame → Begins bytes start
+begins bytes start frame within is = record { within = within; whole = subst IsSome (sym is) refl }
 
 -- the frame whose payload has `len` bytes behind its prefix
 pub frame_read : (bytes : List ℕ) (start len at : ℕ) → Some (len, at) ≡ found_from start (varint_at length_bytes (drop start bytes)) → len < 2 ^ 31 → at + len ≤ length bytes → Some (take (at + len - at) (drop at bytes), at + len) ≡ frame_from start (frame_at (drop start bytes))

@@ -1,21 +1,37 @@
--- Payloads by their places in the bytes of a file.
-use Rattle.std.specs.Prelude.{◌+◌, ◌-◌, ◌≤◌, ℕ, List, take, drop, map, length, All, Option}
+-- Payloads by the places in the bytes of a file at which their frames begin.
+use Rattle.std.specs.Prelude.{◌+◌, ◌-◌, ◌≤◌, ℕ, List, [], take, drop, map, length, All, Option, None, Some, IsSome}
 use Rattle.std.specs.Option.{option_map}
+use Rattle.pb_schema.specs.Frames.{frame_at}
 use Rattle.pb_wire.specs.declared.frame_place.FramePlace.{FramePlace}
 
+-- the payload at a place
 abbrev pub payload_in : List ℕ → FramePlace → List ℕ
 payload_in bytes place = take (place.end - place.start) (drop place.start bytes)
-
-abbrev pub payloads_in : List ℕ → List FramePlace → List (List ℕ)
-payloads_in bytes places = map (payload_in bytes) places
 
 -- the place lies in the bytes
 pub record Inside (bytes : List ℕ) (place : FramePlace) : Type 0 where
   pub order : place.start ≤ place.end
   pub end : place.end ≤ length bytes
 
-abbrev pub AllInside : List ℕ → List FramePlace → Type 0
-AllInside bytes places = All (Inside bytes) places
+-- the payload of the frame, where there is one
+abbrev pub payload_of : Option (List ℕ × ℕ) → List ℕ
+payload_of None = []
+payload_of (Some frame) = frame.0
+
+-- the payload of the frame that begins at this byte
+abbrev pub payload_at : List ℕ → ℕ → List ℕ
+payload_at bytes start = payload_of (frame_at (drop start bytes))
+
+abbrev pub payloads_at : List ℕ → List ℕ → List (List ℕ)
+payloads_at bytes starts = map (payload_at bytes) starts
+
+-- a whole frame begins at this byte
+pub record Begins (bytes : List ℕ) (start : ℕ) : Type 0 where
+  pub within : start ≤ length bytes
+  pub whole : IsSome (frame_at (drop start bytes))
+
+abbrev pub AllBegin : List ℕ → List ℕ → Type 0
+AllBegin bytes starts = All (Begins bytes) starts
 
 -- a payload that is found behind `start` bytes, and the byte behind it, counted from the start of all bytes
 abbrev pub frame_from : ℕ → Option (List ℕ × ℕ) → Option (List ℕ × ℕ)

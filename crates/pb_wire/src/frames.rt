@@ -1,9 +1,9 @@
 // The frames of a file: payloads, each behind a prefix that tells its length.
-ghost use Rattle.std.specs.Prelude.{◌≡◌, ◌+◌, ◌-◌, ◌^◌, ◌<◌, ◌≤◌, ℕ, List, length, take, drop, slice_get, Option, Some, IfOk, IfSome};
+ghost use Rattle.std.specs.Prelude.{◌≡◌, ◌+◌, ◌-◌, ◌^◌, ◌<◌, ◌≤◌, ℕ, List, [], length, take, drop, slice_get, Option, Some, IfOk, IfSome};
 ghost use Rattle.std.specs.Option.{option_map};
 ghost use Rattle.pb_schema.specs.Frames.{frame_at};
 ghost use Rattle.pb_wire.specs.FrameAnswers.{answer_of, Answers};
-ghost use Rattle.pb_wire.specs.FramePlaces.{payload_in, payloads_in, Inside, AllInside, frame_from};
+ghost use Rattle.pb_wire.specs.FramePlaces.{payload_in, payloads_at, Inside, AllBegin, frame_from};
 
 use crate::frame_fault::FrameFault;
 use crate::frame_place::FramePlace;
@@ -18,22 +18,25 @@ const MOST_FRAMES: usize = 1 << 20;
 /// Payloads are shorter than this.
 const LENGTH_END: u64 = 1 << 31;
 
-/// The bytes of a file, and where the payloads of its frames lie in them. Contracts see the list of the payloads.
+/// The bytes of a file, and where its frames begin in them. Contracts see the list of the payloads.
+///
+/// The place of a payload follows from that of its frame, by reading the prefix once more. So a frame takes 8 bytes: most
+/// prefixes have one byte, and to read it costs less than to fetch what would be stored in its place.
 #[derive(Debug, Drop)]
 pub struct Frames {
     bytes: Vec<u8>,
-    places: Vec<FramePlace>,
+    starts: Vec<usize>,
 }
 
 impl Model for Frames {
     ghost use Rattle.std.specs.Prelude.{ℕ, List, ◌<◌, ◌^◌, length};
-    ghost use Rattle.pb_wire.specs.FramePlaces.{payloads_in, AllInside};
+    ghost use Rattle.pb_wire.specs.FramePlaces.{payloads_at, AllBegin};
 
     ghost Value = { List (List ℕ) };
 
-    ghost view = { λ f. payloads_in f.bytes.items f.places.items };
+    ghost view = { λ f. payloads_at f.bytes.items f.starts.items };
 
-    ghost invariant = { λ f. AllInside f.bytes.items f.places.items × (length f.places.items < 2 ^ 32) };
+    ghost invariant = { λ f. AllBegin f.bytes.items f.starts.items × (length f.starts.items < 2 ^ 32) };
 }
 
 impl Frames {
@@ -41,15 +44,29 @@ impl Frames {
     pub fn count(&self) -> u32
         ensures { result ≡ length self.now }
     {
-        self.places.len() as u32
+        self.starts.len() as u32
     }
 
     /// The payload of the frame of this index, where it lies.
+    #[inline]
     pub fn payload(&self, index: u32) -> &[u8]
         requires { index < length self.now }
         ensures { slice_get self.now index ≡ Some result.now }
     {
-        payload_of(&self.bytes, &self.places, index as usize)
+        let place = place_of(&self.bytes, &self.starts, index as usize);
+        &self.bytes[place.start..place.end]
+    }
+
+    /// The bytes of the file from the payload of this index on, and how many of them are the payload's. Where payloads
+    /// are short, a reader that looks a few bytes ahead is faster over these.
+    #[inline]
+    pub fn payload_and_behind(&self, index: u32) -> (&[u8], usize)
+        requires { index < length self.now }
+        ensures payload { slice_get self.now index ≡ Some (take result.1 result.0.now) }
+        ensures inside { result.1 ≤ length result.0.now }
+    {
+        let place = place_of(&self.bytes, &self.starts, index as usize);
+        (&self.bytes[place.start..], place.end - place.start)
     }
 }
 
@@ -58,33 +75,43 @@ pub fn read_frames(alloc: Global, bytes: Vec<u8>) -> Result<Frames, FrameFault>
     ensures exact { Answers (λ frames. frames) result (answer_of bytes.items) }
     ensures few { IfOk result (λ frames. length frames ≤ 2 ^ 20) }
 {
-    let places = find_frames(alloc, &bytes)?;
-    Ok(Frames { bytes, places })
+    let starts = find_frames(alloc, &bytes)?;
+    Ok(Frames { bytes, starts })
 }
 
-// Where the payloads of the frames lie.
-fn find_frames(alloc: Global, bytes: &[u8]) -> Result<Vec<FramePlace>, FrameFault>
-    ensures exact { Answers (λ places. payloads_in bytes.now places.items) result (answer_of bytes.now) }
-    ensures inside { IfOk result (λ places. AllInside bytes.now places.items) }
-    ensures few { IfOk result (λ places. length places.items ≤ 2 ^ 20) }
+// Where the frames begin.
+fn find_frames(alloc: Global, bytes: &[u8]) -> Result<Vec<usize>, FrameFault>
+    ensures exact { Answers (λ starts. payloads_at bytes.now starts.items) result (answer_of bytes.now) }
+    ensures begin { IfOk result (λ starts. AllBegin bytes.now starts.items) }
+    ensures few { IfOk result (λ starts. length starts.items ≤ 2 ^ 20) }
 {
-    let mut places = Vec::new(alloc);
+    let mut starts = with_room(alloc, bytes.len().min(MOST_FRAMES));
     let mut at = 0;
     while at < bytes.len() {
-        if places.len() >= MOST_FRAMES {
+        if starts.len() >= MOST_FRAMES {
             return Err(FrameFault::TooManyFrames);
         }
         let Some(place) = find_frame(bytes, at) else {
             return Err(FrameFault::FrameCut {
-                index: places.len() as u32,
+                index: starts.len() as u32,
             });
         };
-        if places.push(place).is_err() {
+        if starts.push(at).is_err() {
             return Err(FrameFault::NoMemory);
         }
         at = place.end;
     }
-    Ok(places)
+    Ok(starts)
+}
+
+// No starts, with room for so many where it can be had. Room that isn't written is address space alone.
+fn with_room(alloc: Global, most: usize) -> Vec<usize>
+    ensures { result.items ≡ [] }
+{
+    match Vec::with_capacity(alloc, most) {
+        Ok(room) => room,
+        Err(_) => Vec::new(alloc),
+    }
 }
 
 // Where the payload of the frame at `start` lies; none where no whole frame stands there.
@@ -108,13 +135,16 @@ fn find_frame(bytes: &[u8], start: usize) -> Option<FramePlace>
     })
 }
 
-// The payload at the place of this index.
+// Where the payload of the frame of this index lies.
 #[inline]
-fn payload_of<'a>(bytes: &'a [u8], places: &[FramePlace], index: usize) -> &'a [u8]
-    requires index { index < length places.now }
-    requires inside { AllInside bytes.now places.now }
-    ensures { slice_get (payloads_in bytes.now places.now) index ≡ Some result.now }
+fn place_of(bytes: &[u8], starts: &[usize], index: usize) -> FramePlace
+    requires index { index < length starts.now }
+    requires begin { AllBegin bytes.now starts.now }
+    ensures found { slice_get (payloads_at bytes.now starts.now) index ≡ Some (payload_in bytes.now result) }
+    ensures inside { Inside bytes.now result }
 {
-    let place = places[index];
-    &bytes[place.start..place.end]
+    let Some(place) = find_frame(bytes, starts[index]) else {
+        unreachable!()
+    };
+    place
 }
