@@ -30,7 +30,7 @@ pub struct SerialRecord {
 }
 
 /// An arena of one owner: blocks by a policy, each filled from its header on, and byte strings that it keeps with a
-/// cleanup each. It gives nothing up before its end.
+/// cleanup each. Nothing of it is given up before it ends or is dropped; a drop runs no cleanup.
 ///
 /// The list of placements is read by no call. It is there because what the arena means is a function of what it holds.
 #[derive(Drop)]

@@ -19,6 +19,7 @@ pub fn laid_spans_lie_apart()
 pub fn places_lie_apart(arena: &SerialArena)
     ensures { (p q : Place) → IsLive (places_of arena.now) p → IsLive (places_of arena.now) q → (p ≡ q → ⊥) → Apart p q }
 {
+    // a field is named, so that what holds of each arena is at hand
     let _region = &arena.region;
 }
 
@@ -26,5 +27,6 @@ pub fn places_lie_apart(arena: &SerialArena)
 pub fn blocks_hold_places(arena: &SerialArena)
     ensures { (region : ℕ) → blocks_of arena.now region ≤ fin.len (places_of arena.now) }
 {
+    // as above
     let _region = &arena.region;
 }

@@ -25,6 +25,8 @@ impl Memory for SerialArena {
 
     ghost blocks = { blocks_of };
 
+    // It is inlined for speed: most lengths are known where it is called, and zeroing is then a few stores.
+    #[inline(always)]
     fn place(&mut self, bytes: u32) -> Result<Place, MemFault>
         requires { IsPlaceable bytes }
         ensures key { key_of self.new ≡ key_of self.old }
