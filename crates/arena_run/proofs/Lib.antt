@@ -1,10 +1,12 @@
+pub mod WordForms
+pub mod Firsts
+pub mod Sound
 pub mod Messages
 pub mod AllStand
 pub mod Groups
 pub mod Frames
 pub mod Reading
 pub mod Parsing
-pub mod PlainLaws
 pub mod Taken
 pub mod Counted
 pub mod Window

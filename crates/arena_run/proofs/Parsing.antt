@@ -1,42 +1,24 @@
 -- Where a parser of frames stands.
-use Rattle.std.proofs.Common.{◌≡◌, ◌+◌, ◌<◌, ◌≤◌, ℕ, suc, Bool, true, false, cond, List, [], ◌∷◌, ◌++◌, length, drop, Option, None, Some, Result, Ok, Err, refl, sym, ap, ◌∙◌, subst, append-nil, length-append, arith, ⊎_elim}
-use Rattle.std.specs.Prelude.{IsSomeAnd, nat_le, option_and_then}
+use Rattle.std.proofs.Common.{◌≡◌, ◌+◌, ◌^◌, ◌<◌, ◌≤◌, ℕ, zero, suc, List, [], ◌∷◌, ◌++◌, length, take, drop, Option, None, Some, refl, sym, ap, ◌∙◌, subst, take-append-drop, arith, ⊎_elim}
+use Rattle.std.specs.Prelude.{All, IsSomeAnd, option_and_then, slice_get}
 use Rattle.std.specs.Option.{option_map}
 use Rattle.std.specs.List.{AllByRecursion}
 use Rattle.std.specs.FinMap as map
-use Rattle.std.proofs.lemmas.List.{length_push}
-use Rattle.std.proofs.lemmas.Bool.{le-leb, lt-leb, cases_eq}
+use Rattle.std.proofs.lemmas.List.{length_push, drop_more, take_more, at_drop_all}
+use Rattle.std.proofs.lemmas.List.Elements.{All-get_or}
+use Rattle.std.proofs.lemmas.Bool.{cases_eq}
+use Rattle.std.proofs.lemmas.Option.{none-some, get_or_from_slice_get}
 use Rattle.arena_mem.specs.declared.place.Place.{Place}
 use Rattle.arena_mem.specs.Places.{Places, KeepsRest, AddsAtMostABlock}
-use Rattle.pb_schema.specs.Frames.{frames_of, frame_at, behind}
+use Rattle.pb_schema.specs.declared.wire_fault.WireFault.{WireFault}
+use Rattle.pb_schema.specs.Builtin.{builtin}
+use Rattle.pb_schema.specs.Fault.{fault_of}
 use Rattle.pb_schema.specs.Tick.Tree.{Tree}
 use Rattle.pb_schema.specs.Tick.Decode.{tree_of}
-use Rattle.pb_schema.proofs.Steps.{frames_more, frames_cut, frames_end}
-use Rattle.arena_run.specs.Plain.{each_tree, trees_within, trees_in, frame_count_limit}
+use Rattle.arena_run.specs.declared.fault.Fault.{Fault}
+use Rattle.arena_run.specs.declared.fault.Fault.TheVariants.{BadFrame, NotBuilt}
+use Rattle.arena_run.specs.Faults.{each_tree, bad_frame, unbuilt, payloads_fault}
 use Rattle.arena_run.specs.Stands.{IsRecordOf, Stands, AllStand, EachTwo, Differ}
-
--- payloads in front of what is behind them
-abbrev pub in_front : List (List ℕ) → Result (List (List ℕ)) ℕ → Result (List (List ℕ)) ℕ
-in_front [] r = r
-in_front (p ∷ ps) r = behind p (in_front ps r)
-
-in_front-behind : (ps : List (List ℕ)) (p : List ℕ) (r : Result (List (List ℕ)) ℕ) → in_front ps (behind p r) ≡ in_front (ps ++ p ∷ []) r
-in_front-behind [] p r = refl
-in_front-behind (q ∷ ps) p r = ap (behind q) (in_front-behind ps p r)
-
-in_front-Ok : (ps qs : List (List ℕ)) → in_front ps (Ok qs) ≡ Ok (ps ++ qs)
-in_front-Ok [] qs = refl
-in_front-Ok (p ∷ ps) qs = ap (behind p) (in_front-Ok ps qs)
-
-in_front-Err : (ps : List (List ℕ)) (cut : ℕ) → in_front ps (Err cut) ≡ Err (length ps + cut)
-in_front-Err [] cut = ap Err (sym (zero_add cut))
-  where
-    zero_add : (n : ℕ) → 0 + n ≡ n
-    zero_add n = omega arith
-in_front-Err (p ∷ ps) cut = ap (behind p) (in_front-Err ps cut) ∙ ap Err (sym (suc_add (length ps) cut))
-  where
-    suc_add : (a b : ℕ) → suc a + b ≡ suc (a + b)
-    suc_add a b = omega arith
 
 -- payload by payload, its tree
 abbrev pub Decodes : List (List ℕ) → List Tree → Type 0
@@ -60,20 +42,26 @@ each_tree-Decodes [] (t ∷ ts) d = absurd d
 each_tree-Decodes (p ∷ ps) [] d = absurd d
 each_tree-Decodes (p ∷ ps) (t ∷ ts) d = head_tree p ps t d.0 ∙ ap (option_map (λ trees. t ∷ trees)) (each_tree-Decodes ps ts d.1)
 
+-- a list at one of its items
+slice_below : {X : Type 0} (xs : List X) (i : ℕ) (x : X) → slice_get xs i ≡ Some x → i < length xs
+slice_below [] i x e = absurd (none-some x e)
+slice_below (y ∷ xs) zero x e = omega arith
+slice_below (y ∷ xs) (suc i) x e = omega (arith, slice_below xs i x e)
+
+pub parts : {X : Type 0} (xs : List X) (i : ℕ) (x : X) → slice_get xs i ≡ Some x → xs ≡ take i xs ++ x ∷ drop (i + 1) xs
+parts xs i x e =
+    let item = get_or_from_slice_get xs i x x e in
+    sym (take-append-drop i xs) ∙ ap (λ ys. take i xs ++ ys) (drop_more xs i x (slice_below xs i x e) ∙ ap (λ y. y ∷ drop (i + 1) xs) item)
+
+pub taken_more : {X : Type 0} (xs : List X) (i : ℕ) (x : X) → slice_get xs i ≡ Some x → take (i + 1) xs ≡ take i xs ++ x ∷ []
+taken_more xs i x e = take_more xs i x (slice_below xs i x e) ∙ ap (λ y. take i xs ++ y ∷ []) (get_or_from_slice_get xs i x x e)
+
 -- a payload without a tree behind some that have one
 no_trees : (ps : List (List ℕ)) (ts : List Tree) (p : List ℕ) (qs : List (List ℕ)) → Decodes ps ts → tree_of p ≡ None → each_tree (ps ++ p ∷ qs) ≡ None
 no_trees [] [] p qs d none = ap (option_and_then (λ tree. option_map (λ trees. tree ∷ trees) (each_tree qs))) none
 no_trees [] (t ∷ ts) p qs d none = absurd d
 no_trees (q ∷ ps) [] p qs d none = absurd d
 no_trees (q ∷ ps) (t ∷ ts) p qs d none = head_tree q (ps ++ p ∷ qs) t d.0 ∙ ap (option_map (λ trees. t ∷ trees)) (no_trees ps ts p qs d.1 none)
-
-pub trees_in-Err : (bytes : List ℕ) (cut : ℕ) → frames_of bytes ≡ Err cut → trees_in bytes ≡ None
-unfolding trees_in
-trees_in-Err bytes cut e = ap (λ (r : Result (List (List ℕ)) ℕ). elim r as (λ _. Option (List Tree)) [ Ok payloads ↦ trees_within payloads | Err k ↦ None ]) e
-
-pub trees_in-Ok : (bytes : List ℕ) (ps : List (List ℕ)) → frames_of bytes ≡ Ok ps → trees_in bytes ≡ trees_within ps
-unfolding trees_in
-trees_in-Ok bytes ps e = ap (λ (r : Result (List (List ℕ)) ℕ). elim r as (λ _. Option (List Tree)) [ Ok payloads ↦ trees_within payloads | Err k ↦ None ]) e
 
 AllByRecursion-push : {A : Type 0} (P : A → Type 0) (xs : List A) (y : A) → AllByRecursion P xs → P y → AllByRecursion P (xs ++ y ∷ [])
 AllByRecursion-push P [] y all is = (is, tt)
@@ -113,69 +101,75 @@ all_differ places [] (t ∷ ts) q all free = absurd all
 all_differ places (p ∷ ps) [] q all free = absurd all
 all_differ places (p ∷ ps) (t ∷ ts) q all free = (differs places p q t all.0 free, all_differ places ps ts q all.1 free)
 
--- the frames before `at` are parsed: their payloads and trees, and the messages that stand for them
-pub record ParsedTo (bytes : List ℕ) (at : ℕ) (places : Places) (messages : List Place) : Type 0 where
-  pub payloads : List (List ℕ)
+-- these payloads are parsed: their trees, and the messages that stand for them
+pub record ParsedTo (payloads : List (List ℕ)) (places : Places) (messages : List Place) : Type 0 where
   pub trees : List Tree
-  pub front : frames_of bytes ≡ in_front payloads (frames_of (drop at bytes))
   pub decoded : Decodes payloads trees
   pub stand : AllStand places messages trees
   pub differ : EachTwo Differ messages
   pub count : length payloads ≡ length messages
 
-pub parsed_none : (bytes : List ℕ) (places : Places) → ParsedTo bytes 0 places []
-parsed_none bytes places = record { payloads = []; trees = []; front = refl; decoded = tt; stand = tt; differ = tt; count = refl }
+pub parsed_none : (places : Places) → ParsedTo [] places []
+parsed_none places = record { trees = []; decoded = tt; stand = tt; differ = tt; count = refl }
 
-frame_front : (bytes : List ℕ) (at : ℕ) (payloads : List (List ℕ)) (payload : List ℕ) (n : ℕ) → frames_of bytes ≡ in_front payloads (frames_of (drop at bytes)) → at < length bytes → frame_at (drop at bytes) ≡ Some (payload, n)
-    → frames_of bytes ≡ in_front payloads (behind payload (frames_of (drop (at + n) bytes)))
-frame_front bytes at payloads payload n front inside found = front ∙ ap (in_front payloads) (frames_more bytes at payload n inside found)
-
-pub parsed_more : (bytes : List ℕ) (at : ℕ) (old new : Places) (messages : List Place) (payload : List ℕ) (n : ℕ) (t : Tree) (p : Place) → ParsedTo bytes at old messages → at < length bytes → frame_at (drop at bytes) ≡ Some (payload, n)
-    → tree_of payload ≡ Some t → map.get old p ≡ None → Stands new p t → KeepsRest old new → ParsedTo bytes (at + n) new (messages ++ p ∷ [])
-parsed_more bytes at old new messages payload n t p so_far inside found is_tree free stands kept =
+pub parsed_more : (payloads : List (List ℕ)) (old new : Places) (messages : List Place) (payload : List ℕ) (t : Tree) (p : Place) → ParsedTo payloads old messages
+    → tree_of payload ≡ Some t → map.get old p ≡ None → Stands new p t → KeepsRest old new → ParsedTo (payloads ++ payload ∷ []) new (messages ++ p ∷ [])
+parsed_more payloads old new messages payload t p so_far is_tree free stands kept =
     record {
-      payloads = so_far.payloads ++ payload ∷ [];
       trees = so_far.trees ++ t ∷ [];
-      front = frame_front bytes at so_far.payloads payload n so_far.front inside found ∙ in_front-behind so_far.payloads payload (frames_of (drop (at + n) bytes));
-      decoded = Decodes-push so_far.payloads so_far.trees payload t so_far.decoded is_tree;
+      decoded = Decodes-push payloads so_far.trees payload t so_far.decoded is_tree;
       stand = AllStand-push new messages so_far.trees p t (AllStand-kept old new messages so_far.trees kept so_far.stand) stands;
       differ = EachTwo-push Differ messages p so_far.differ (all_differ old messages so_far.trees p so_far.stand free);
-      count = length_push so_far.payloads payload ∙ ap (λ k. k + 1) so_far.count ∙ sym (length_push messages p);
+      count = length_push payloads payload ∙ ap (λ k. k + 1) so_far.count ∙ sym (length_push messages p);
     }
 
-pub cut_frame : (bytes : List ℕ) (at : ℕ) (places : Places) (messages : List Place) → ParsedTo bytes at places messages → at < length bytes → frame_at (drop at bytes) ≡ None → trees_in bytes ≡ None
-cut_frame bytes at places messages so_far inside none =
-    trees_in-Err bytes _ (so_far.front ∙ ap (in_front so_far.payloads) (frames_cut bytes at inside none) ∙ in_front-Err so_far.payloads 0)
+-- the payload behind those that are parsed has no tree
+pub bad_payload : (payloads : List (List ℕ)) (i : ℕ) (payload : List ℕ) (places : Places) (messages : List Place) → ParsedTo (take i payloads) places messages → slice_get payloads i ≡ Some payload → tree_of payload ≡ None → each_tree payloads ≡ None
+bad_payload payloads i payload places messages so_far here none =
+    ap each_tree (parts payloads i payload here) ∙ no_trees (take i payloads) so_far.trees payload (drop (i + 1) payloads) so_far.decoded none
 
--- what comes of the frames behind a payload
-behind_payload : (bytes : List ℕ) (ps : List (List ℕ)) (payload : List ℕ) (r : Result (List (List ℕ)) ℕ) → frames_of bytes ≡ in_front ps (behind payload r) → ((qs : List (List ℕ)) → trees_within (ps ++ payload ∷ qs) ≡ None) → trees_in bytes ≡ None
-behind_payload bytes ps payload (Err cut) e refused = trees_in-Err bytes _ (e ∙ in_front-Err ps (suc cut))
-behind_payload bytes ps payload (Ok qs) e refused = trees_in-Ok bytes _ (e ∙ in_front-Ok ps (payload ∷ qs)) ∙ refused qs
+-- FAULTS
 
-either_none : (b : Bool) (o : Option (List Tree)) → o ≡ None → cond b o None ≡ None
-either_none true o e = e
-either_none false o e = refl
+abbrev if_sound : ℕ → List (List ℕ) → Option WireFault → Option Fault
+if_sound index payloads found = elim found [ Some fault ↦ Some (BadFrame index fault) | None ↦ bad_frame (suc index) payloads ]
 
-pub bad_payload : (bytes : List ℕ) (at : ℕ) (places : Places) (messages : List Place) (payload : List ℕ) (n : ℕ) → ParsedTo bytes at places messages → at < length bytes → frame_at (drop at bytes) ≡ Some (payload, n) → tree_of payload ≡ None → trees_in bytes ≡ None
-bad_payload bytes at places messages payload n so_far inside found none =
-    behind_payload bytes so_far.payloads payload (frames_of (drop (at + n) bytes)) (frame_front bytes at so_far.payloads payload n so_far.front inside found)
-    (λ qs. either_none (nat_le (length (so_far.payloads ++ payload ∷ qs)) frame_count_limit) _ (no_trees so_far.payloads so_far.trees payload qs so_far.decoded none))
+bad_front : (payloads : List (List ℕ)) (i : ℕ) (payload : List ℕ) → slice_get payloads i ≡ Some payload → bad_frame i (drop i payloads) ≡ if_sound i (drop (i + 1) payloads) (fault_of builtin 0 0 payload)
+bad_front payloads i payload here =
+    ap (bad_frame i) (drop_more payloads i payload (slice_below payloads i payload here) ∙ ap (λ p. p ∷ drop (i + 1) payloads) (get_or_from_slice_get payloads i payload payload here))
 
-pub too_many_frames : (bytes : List ℕ) (at : ℕ) (places : Places) (messages : List Place) (payload : List ℕ) (n : ℕ) → ParsedTo bytes at places messages → at < length bytes → frame_at (drop at bytes) ≡ Some (payload, n) → frame_count_limit ≤ length messages → trees_in bytes ≡ None
-too_many_frames bytes at places messages payload n so_far inside found full =
-    behind_payload bytes so_far.payloads payload (frames_of (drop (at + n) bytes)) (frame_front bytes at so_far.payloads payload n so_far.front inside found)
-    (λ qs. let ps = so_far.payloads in
-    let count = so_far.count in
-    let more : frame_count_limit < length (ps ++ payload ∷ qs) = omega (arith, length-append ps (payload ∷ qs)) in
-    ap (λ b. cond b (each_tree (ps ++ payload ∷ qs)) None) (lt-leb (length (ps ++ payload ∷ qs)) frame_count_limit more))
+-- the payloads from here on have the first fault of all
+abbrev pub SoundTo : List (List ℕ) → ℕ → Type 0
+SoundTo payloads i = bad_frame i (drop i payloads) ≡ bad_frame 0 payloads
 
-pub parsed_all : (bytes : List ℕ) (at : ℕ) (places : Places) (messages : List Place) → ParsedTo bytes at places messages → length bytes ≤ at → length messages ≤ frame_count_limit → IsSomeAnd (trees_in bytes) (AllStand places messages)
-parsed_all bytes at places messages so_far end few =
-    let count = so_far.count in
-    let fits : length so_far.payloads ≤ frame_count_limit = omega arith in
-    let whole : frames_of bytes ≡ Ok so_far.payloads = so_far.front ∙ ap (in_front so_far.payloads) (frames_end bytes at end) ∙ in_front-Ok so_far.payloads [] ∙ ap Ok (append-nil so_far.payloads) in
-    let trees : trees_in bytes ≡ Some so_far.trees = trees_in-Ok bytes so_far.payloads whole ∙ ap (λ b. cond b (each_tree so_far.payloads) None) (le-leb (length so_far.payloads) frame_count_limit fits) ∙ each_tree-Decodes so_far.payloads so_far.trees so_far.decoded in
-    subst (λ o. IsSomeAnd o (AllStand places messages)) (sym trees) so_far.stand
+pub sound_more : (payloads : List (List ℕ)) (i : ℕ) (payload : List ℕ) → SoundTo payloads i → slice_get payloads i ≡ Some payload → fault_of builtin 0 0 payload ≡ None → SoundTo payloads (i + 1)
+sound_more payloads i payload so_far here sound =
+    let next : i + 1 ≡ suc i = omega arith in
+    ap (λ n. bad_frame n (drop (i + 1) payloads)) next ∙ (sym (bad_front payloads i payload here ∙ ap (if_sound i (drop (i + 1) payloads)) sound) ∙ so_far)
+
+if_bad : List (List ℕ) → Option Fault → Option Fault
+if_bad payloads found = elim found [ Some fault ↦ Some fault | None ↦ unbuilt (each_tree payloads) ]
+
+pub bad_here : (payloads : List (List ℕ)) (i : ℕ) (payload : List ℕ) (d : WireFault) → SoundTo payloads i → slice_get payloads i ≡ Some payload → fault_of builtin 0 0 payload ≡ Some d → payloads_fault payloads ≡ Some (BadFrame i d)
+unfolding if_bad
+bad_here payloads i payload d so_far here bad = ap (if_bad payloads) (sym so_far ∙ (bad_front payloads i payload here ∙ ap (if_sound i (drop (i + 1) payloads)) bad))
+
+no_bad : (payloads : List (List ℕ)) (i : ℕ) → SoundTo payloads i → length payloads ≤ i → bad_frame 0 payloads ≡ None
+no_bad payloads i so_far past = sym so_far ∙ at_drop_all (bad_frame i) payloads i past
+
+pub all_sound : (payloads : List (List ℕ)) (i : ℕ) → SoundTo payloads i → length payloads ≤ i → each_tree payloads ≡ None → payloads_fault payloads ≡ Some NotBuilt
+unfolding if_bad
+all_sound payloads i so_far past none = ap (if_bad payloads) (no_bad payloads i so_far past) ∙ ap unbuilt none
+
+pub all_plain : (payloads : List (List ℕ)) (i : ℕ) (places : Places) (messages : List Place) → SoundTo payloads i → length payloads ≤ i → ParsedTo payloads places messages → payloads_fault payloads ≡ None
+unfolding if_bad
+all_plain payloads i places messages so_far past parsed = ap (if_bad payloads) (no_bad payloads i so_far past) ∙ ap unbuilt (each_tree-Decodes payloads parsed.trees parsed.decoded)
+
+pub short_here : (payloads : List (List ℕ)) (i : ℕ) (payload : List ℕ) → All (λ p. length p < 2 ^ 31) payloads → slice_get payloads i ≡ Some payload → length payload < 2 ^ 31
+short_here payloads i payload all here =
+    subst (λ p. length p < 2 ^ 31) (get_or_from_slice_get payloads i payload payload here) (All-get_or (λ p. length p < 2 ^ 31) payloads i payload (slice_below payloads i payload here) all)
+
+pub parsed_all : (payloads : List (List ℕ)) (places : Places) (messages : List Place) → ParsedTo payloads places messages → IsSomeAnd (each_tree payloads) (AllStand places messages)
+parsed_all payloads places messages so_far = subst (λ o. IsSomeAnd o (AllStand places messages)) (sym (each_tree-Decodes payloads so_far.trees so_far.decoded)) so_far.stand
 
 -- one placement more, one block more at the most
 pub blocks_within : (old new : ℕ → ℕ) (n : ℕ) → AddsAtMostABlock old new → ((region : ℕ) → old region ≤ n) → (region : ℕ) → new region ≤ n + 1

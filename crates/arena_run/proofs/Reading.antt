@@ -2,13 +2,12 @@
 use Rattle.std.proofs.Common.{◌≡◌, ◌+◌, ◌-◌, ◌*◌, ◌%◌, ◌^◌, ◌<◌, ◌≤◌, ℕ, List, length, get_or, take, drop, Option, None, Some, refl, sym, ap, ◌∙◌, length-drop, add_assoc, min, ◌⊎◌, ⊎_elim, inl, inr, arith}
 use Rattle.std.proofs.lemmas.Bool.{cases_lt}
 use Rattle.std.specs.Prelude.{option_and_then}
-use Rattle.pb_schema.specs.Frames.{frame_at}
 use Rattle.pb_schema.specs.Tick.Records.{record_at, value_at}
 use Rattle.std.specs.Option.{option_map}
 use Rattle.std.proofs.Math.Nat.{add-mod}
-use Rattle.std.proofs.lemmas.List.{get_or-drop, drop-drop, drop-take}
+use Rattle.std.proofs.lemmas.List.{get_or-drop, drop-drop}
 use Rattle.pb_schema.specs.Varint.{seven_bits, varint_at, tag_bytes, value_bytes}
-use Rattle.pb_schema.proofs.Steps.{ContinuedTo, continued_none, continued_more, continued_value, continued_cut, continued_long, seven_bits_more, frame_at_whole}
+use Rattle.pb_schema.proofs.Steps.{ContinuedTo, continued_none, continued_more, continued_value, continued_cut, continued_long, seven_bits_more}
 use Rattle.arena_run.specs.Reading.{moved}
 
 -- what was found, counted from where it stands
@@ -89,18 +88,6 @@ read_cut bytes start most i value so_far past =
     let s = drop start bytes in
     let end : (length s ≤ i) ⊎ (most ≤ i) = ⊎_elim (λ less. inl (omega (arith, length-drop start bytes))) (λ more. inr more) (cases_lt i most) in
     moved_none (varint_at most s) start (⊎_elim (continued_cut most s i so_far.continued) (continued_long most s i so_far.continued) end)
-
--- the frame whose payload has `len` bytes behind its prefix
-pub frame_read : (bytes : List ℕ) (start len at : ℕ) → Some (len, at) ≡ moved start (varint_at tag_bytes (drop start bytes)) → len < 2 ^ 31 → at + len ≤ length bytes → Some (drop at (take (at + len) bytes), at + len) ≡ moved start (frame_at (drop start bytes))
-frame_read bytes start len at read short fits =
-    let s = drop start bytes in
-    let prefix = found_from_moved (varint_at tag_bytes s) start len at read in
-    let ends = prefix.end_is in
-    let inside : prefix.bytes + len ≤ length s = omega (arith, length-drop start bytes) in
-    let same_place : drop at bytes ≡ drop prefix.bytes s = ap (λ k. drop k bytes) ends ∙ sym (drop-drop prefix.bytes start bytes) in
-    let payload : drop at (take (at + len) bytes) ≡ take len (drop prefix.bytes s) = drop-take at len bytes ∙ ap (take len) same_place in
-    let wrap : List ℕ → Option (List ℕ × ℕ) = λ p. Some (p, at + len) in
-    ap wrap payload ∙ moved_some (frame_at s) start _ (prefix.bytes + len) (at + len) (frame_at_whole s len prefix.bytes prefix.is short inside) (omega arith)
 
 -- a value behind a tag, counted from the tag
 moved_twice : (found : Option (ℕ × ℕ)) (start n : ℕ) → moved (start + n) found ≡ moved start (option_map (λ value. (value.0, n + value.1)) found)

@@ -1,5 +1,5 @@
 pub mod Words
-pub mod Plain
+pub mod Faults
 pub mod Contents
 pub mod Stands
 pub mod Written

@@ -1,15 +1,34 @@
 // The faults of a run, and their statuses.
 ghost use Rattle.std.specs.Prelude.{◌≡◌};
 
+use pb_wire::WireFault;
+
+/// An input that has a limit.
+#[derive(Clone, Copy, Debug, PartialEq, Eq)]
+pub enum InputKind {
+    /// The bytes of the frames file, of which there may be 2^24.
+    FrameBytes,
+    /// Its frames, of which there may be 2^20.
+    FrameCount,
+}
+
 /// Why a run didn't end well.
 #[derive(Clone, Copy, Debug, PartialEq, Eq)]
 pub enum Fault {
     /// A growth was refused. Status 1.
     NoMemory,
+    /// The words have none of the three forms. Status 2.
+    Usage,
+    /// So many frames of the file are whole, and behind them none can be read. Status 4.
+    FrameCut { index: u32 },
+    /// The frame of this index is the first whose payload has a fault, and this is its first. Status 4.
+    BadFrame { index: u32, fault: WireFault },
     /// The frames file failed. Status 6.
     ReadFault,
     /// The output failed. Status 7.
     WriteFault,
+    /// There is more of an input than this. Status 8.
+    TooLong { which: InputKind, limit: u32 },
     /// The words or the frames file ask for what isn't built yet. Status 9.
     NotBuilt,
 }
@@ -23,8 +42,11 @@ impl Fault {
     {
         match self {
             Fault::NoMemory => 1,
+            Fault::Usage => 2,
+            Fault::FrameCut { .. } | Fault::BadFrame { .. } => 4,
             Fault::ReadFault => 6,
             Fault::WriteFault => 7,
+            Fault::TooLong { .. } => 8,
             Fault::NotBuilt => 9,
         }
     }

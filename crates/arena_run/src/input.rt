@@ -1,28 +1,85 @@
-// Reading a whole file through `Files`.
-ghost use Rattle.std.specs.Prelude.{◌≡◌, [], ◌+◌, ◌^◌, ◌<◌, ◌≤◌, ℕ, List, Some, length, IsTrue, IfOk, IfSome, IsErrOf};
+// Reading a whole file through `Files`, and cutting it into frames.
+ghost use Rattle.std.specs.Prelude.{◌≡◌, ◌⊎◌, [], ◌+◌, ◌^◌, ◌<◌, ◌≤◌, ℕ, List, Some, Ok, All, length, IsTrue, IfOk, IfErr, IfSome, IsErrOf};
 ghost use Rattle.std.specs.String.{string_bytes};
 ghost use Rattle.arena_mem.specs.Outside.{Rose};
+ghost use Rattle.pb_schema.specs.Frames.{frames_of};
 ghost use Rattle.arena_run.specs.Contents.{content_of, IsThere};
+ghost use Rattle.arena_run.specs.Ends.{EndsBy, IsRead, IsOfFile};
+ghost use Rattle.arena_run.specs.Faults.{frames_fault, first_fault};
 
+use crate::fault::{Fault, InputKind};
 use arena_mem::Files;
+use pb_wire::{FrameFault, Frames, read_frames};
 use std::alloc::Global;
 
 /// How many bytes a frames file may have.
 const FRAME_BYTES_LIMIT: usize = 16777216;
+
+/// How many frames a file may have.
+const FRAME_COUNT_LIMIT: u32 = 1048576;
 
 /// How many bytes are asked for in one call.
 const READ_BYTES: usize = 65536;
 
 /// Why a file wasn't read to its end.
 #[derive(Clone, Copy, Debug, PartialEq, Eq)]
-pub enum ReadEnd {
+enum ReadEnd {
     NoMemory,
     Failed,
     TooLong,
 }
 
-/// Reads all of the file of that name, where it isn't above the limit.
-pub fn read_file<F: Files>(alloc: Global, files: &mut F, name: String) -> Result<Vec<u8>, ReadEnd>
+/// Reads the frames of the file of that name.
+pub fn read_frames_file<F: Files>(
+    alloc: Global,
+    files: &mut F,
+    name: String,
+) -> Result<Frames, Fault>
+    ensures contents { F.contents files.new ≡ F.contents files.old }
+    ensures counts { F.faults files.old ≤ F.faults files.new }
+    ensures kind { IfErr result IsOfFile }
+    ensures there { IfOk result (λ _. IsThere (F.contents files.old) (string_bytes name)) }
+    ensures there_err { IfErr result (λ fault. IsRead (Some fault) → IsThere (F.contents files.old) (string_bytes name)) }
+    ensures unblamed { (IsErrOf result Fault.ReadFault → ⊥) → F.blamed files.new ≡ F.blamed files.old }
+    ensures failed { IsErrOf result Fault.ReadFault → Rose (F.faults files.old) (F.faults files.new) }
+    ensures blamed { IsErrOf result Fault.ReadFault → F.blamed files.new ≡ Some (string_bytes name) }
+    ensures few { IfOk result (λ payloads. length payloads ≤ 2 ^ 20) }
+    ensures short { IfOk result (λ payloads. All (λ payload. length payload < 2 ^ 31) payloads) }
+    ensures whole { IfOk result (λ payloads. IfSome (content_of (F.contents files.old) (string_bytes name)) (λ content. (length content ≤ 2 ^ 24) × (frames_of content ≡ Ok payloads))) }
+    ensures exact { IfErr result (λ fault. IfSome (content_of (F.contents files.old) (string_bytes name)) (λ content. EndsBy (first_fault content) (Some fault))) }
+{
+    match read_file(alloc, files, name) {
+        Ok(bytes) => cut_into_frames(alloc, bytes),
+        Err(ReadEnd::NoMemory) => Err(Fault::NoMemory),
+        Err(ReadEnd::Failed) => Err(Fault::ReadFault),
+        Err(ReadEnd::TooLong) => Err(Fault::TooLong {
+            which: InputKind::FrameBytes,
+            limit: FRAME_BYTES_LIMIT as u32,
+        }),
+    }
+}
+
+// The frames of a file's bytes.
+fn cut_into_frames(alloc: Global, bytes: Vec<u8>) -> Result<Frames, Fault>
+    ensures kind { IfErr result (λ fault. IsOfFile fault × (fault ≡ Fault.ReadFault → ⊥)) }
+    ensures few { IfOk result (λ payloads. length payloads ≤ 2 ^ 20) }
+    ensures short { IfOk result (λ payloads. All (λ payload. length payload < 2 ^ 31) payloads) }
+    ensures whole { IfOk result (λ payloads. frames_of bytes.items ≡ Ok payloads) }
+    ensures fault { IfErr result (λ fault. (fault ≡ Fault.NoMemory) ⊎ (frames_fault (frames_of bytes.items) ≡ Some fault)) }
+{
+    match read_frames(alloc, bytes) {
+        Ok(frames) => Ok(frames),
+        Err(FrameFault::FrameCut { index }) => Err(Fault::FrameCut { index }),
+        Err(FrameFault::TooManyFrames) => Err(Fault::TooLong {
+            which: InputKind::FrameCount,
+            limit: FRAME_COUNT_LIMIT,
+        }),
+        Err(FrameFault::NoMemory) => Err(Fault::NoMemory),
+    }
+}
+
+// Reads all of the file of that name, where it isn't above the limit.
+fn read_file<F: Files>(alloc: Global, files: &mut F, name: String) -> Result<Vec<u8>, ReadEnd>
     ensures contents { F.contents files.new ≡ F.contents files.old }
     ensures counts { F.faults files.old ≤ F.faults files.new }
     ensures there_ok { IfOk result (λ _. IsThere (F.contents files.old) (string_bytes name)) }

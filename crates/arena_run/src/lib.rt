@@ -7,8 +7,8 @@
 
 mod fault;
 mod input;
-mod laws;
 mod parse;
+mod payload;
 mod program;
 #[cfg(test)]
 mod tests;
@@ -17,6 +17,6 @@ mod wire;
 mod words;
 mod write;
 
-pub use fault::Fault;
-pub use laws::plain_files;
+pub use fault::{Fault, InputKind};
+pub use pb_wire::{WireFault, WireKind};
 pub use program::{Outcome, run};

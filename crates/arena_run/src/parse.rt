@@ -1,68 +1,76 @@
 // Parsing the frames of a file into messages.
-ghost use Rattle.std.specs.Prelude.{◌≡◌, ◌+◌, ◌^◌, ◌≤◌, ℕ, [], None, length, IfOk, IfErr, IsErrOf, IsSomeAnd};
+ghost use Rattle.std.specs.Prelude.{◌≡◌, ◌⊎◌, ◌+◌, ◌^◌, ◌<◌, ◌≤◌, ℕ, [], None, Some, All, length, drop, IfOk, IfErr, IsSomeAnd};
 ghost use Rattle.std.specs.FinMap as finite;
 ghost use Rattle.arena_mem.specs.Places.{KeepsRest};
-ghost use Rattle.arena_run.specs.Plain.{trees_in};
+ghost use Rattle.arena_run.specs.Ends.{IsOfPayloads};
+ghost use Rattle.arena_run.specs.Faults.{each_tree, bad_frame, payloads_fault};
 ghost use Rattle.arena_run.specs.Stands.{AllStand, EachTwo, Differ};
 
+use crate::fault::Fault;
+use crate::payload::fault_in;
 use crate::tick;
-use crate::wire::{read_frame, read_value};
+use crate::wire::read_value;
 use arena_mem::{Memory, Place};
+use pb_wire::Frames;
 use std::alloc::Global;
-
-/// How many frames a file may have.
-const FRAME_COUNT_LIMIT: usize = 1048576;
-
-/// Why the frames of a file weren't all parsed.
-#[derive(Clone, Copy, Debug, PartialEq, Eq)]
-pub enum ParseEnd {
-    NoMemory,
-    NotPlain,
-}
 
 /// Parses each frame into a message of its own, and answers the messages in order.
 pub fn parse_frames<M: Memory>(
     alloc: Global,
     mem: &mut M,
-    bytes: &[u8],
-) -> Result<Vec<Place>, ParseEnd>
-    requires { (region : ℕ) → M.blocks mem.old region ≡ 0 }
-    ensures stand { IfOk result (λ messages. IsSomeAnd (trees_in bytes.now) (AllStand (M.places mem.new) messages.items)) }
+    frames: &Frames,
+) -> Result<Vec<Place>, Fault>
+    requires blocks { (region : ℕ) → M.blocks mem.old region ≡ 0 }
+    requires few { length frames.now ≤ 2 ^ 20 }
+    requires short { All (λ payload. length payload < 2 ^ 31) frames.now }
+    ensures stand { IfOk result (λ messages. IsSomeAnd (each_tree frames.now) (AllStand (M.places mem.new) messages.items)) }
     ensures differ { IfOk result (λ messages. EachTwo Differ messages.items) }
-    ensures not_plain { IsErrOf result ParseEnd.NotPlain → trees_in bytes.now ≡ None }
+    ensures sound { IfOk result (λ _. payloads_fault frames.now ≡ None) }
+    ensures kind { IfErr result IsOfPayloads }
+    ensures fault { IfErr result (λ fault. (fault ≡ Fault.NoMemory) ⊎ (payloads_fault frames.now ≡ Some fault)) }
     ensures few { finite.len (M.places mem.new) ≤ finite.len (M.places mem.old) + 2 ^ 20 }
     ensures counted { IfOk result (λ messages. finite.len (M.places mem.new) ≡ finite.len (M.places mem.old) + length messages.items) }
     ensures key { M.key mem.new ≡ M.key mem.old }
     ensures rest { KeepsRest (M.places mem.old) (M.places mem.new) }
     ensures buffers { M.buffers mem.new ≡ M.buffers mem.old }
 {
-    let mut messages = room_for_messages(alloc, bytes.len())?;
-    let mut at = 0;
-    while at < bytes.len() {
-        let Some((start, end)) = read_frame(bytes, at) else {
-            return Err(ParseEnd::NotPlain);
-        };
-        if messages.len() >= FRAME_COUNT_LIMIT {
-            return Err(ParseEnd::NotPlain);
-        }
-        let Some(value) = read_value(bytes, start, end) else {
-            return Err(ParseEnd::NotPlain);
+    let count = frames.count();
+    let mut messages = room_for_messages(alloc, count)?;
+    for index in 0..count {
+        let (bytes, len) = frames.payload_and_behind(index);
+        let Some(value) = read_value(bytes, len) else {
+            return Err(refusal(frames, index));
         };
         let Ok(message) = tick::create(mem, value) else {
-            return Err(ParseEnd::NoMemory);
+            return Err(Fault::NoMemory);
         };
         if messages.push(message).is_err() {
-            return Err(ParseEnd::NoMemory);
+            return Err(Fault::NoMemory);
         }
-        at = end;
     }
     Ok(messages)
 }
 
-// Room for the messages of a file of so many bytes. A frame has a byte at least, so it never grows.
-fn room_for_messages(alloc: Global, bytes: usize) -> Result<Vec<Place>, ParseEnd>
-    ensures empty { IfOk result (λ messages. messages.items ≡ []) }
-    ensures no_memory { IfErr result (λ end. end ≡ ParseEnd.NoMemory) }
+// Why frames aren't parsed, of which those before the first here have no fault, and that one isn't plain.
+fn refusal(frames: &Frames, first: u32) -> Fault
+    requires short { All (λ payload. length payload < 2 ^ 31) frames.now }
+    requires sound { bad_frame first (drop first frames.now) ≡ bad_frame 0 frames.now }
+    requires not_plain { each_tree frames.now ≡ None }
+    ensures kind { IsOfPayloads result }
+    ensures fault { payloads_fault frames.now ≡ Some result }
 {
-    Vec::with_capacity(alloc, bytes.min(FRAME_COUNT_LIMIT)).map_err(|_| ParseEnd::NoMemory)
+    for index in first..frames.count() {
+        if let Some(fault) = fault_in(frames.payload(index)) {
+            return Fault::BadFrame { index, fault };
+        }
+    }
+    Fault::NotBuilt
+}
+
+// Room for so many messages, so that it never grows.
+fn room_for_messages(alloc: Global, count: u32) -> Result<Vec<Place>, Fault>
+    ensures empty { IfOk result (λ messages. messages.items ≡ []) }
+    ensures no_memory { IfErr result (λ end. end ≡ Fault.NoMemory) }
+{
+    Vec::with_capacity(alloc, count as usize).map_err(|_| Fault::NoMemory)
 }

@@ -1,5 +1,5 @@
 // The top call, and the outcome of a run.
-ghost use Rattle.std.specs.Prelude.{◌≡◌, ◌⊎◌, ◌+◌, ◌^◌, ◌≤◌, ℕ, List, [], None, Some, Err, length, map, IfOk, IfErr, IfNone, IsSome, IsErrOf};
+ghost use Rattle.std.specs.Prelude.{◌≡◌, ◌↔◌, ◌⊎◌, ◌+◌, ◌^◌, ◌≤◌, ℕ, List, [], None, Some, Err, length, map, IfOk, IfErr, IfNone, IsSome, IsErrOf};
 ghost use Rattle.std.specs.FinMap as finite;
 ghost use Rattle.std.specs.String.{string_bytes};
 ghost use Rattle.std.specs.Io.KnownBytes.{Appends, Keeps};
@@ -8,17 +8,17 @@ ghost use Rattle.arena_mem.specs.Outside.{Rose};
 ghost use Rattle.serial_arena.specs.Serial.{places_of, buffers_of, IsUnused};
 ghost use Rattle.serial_arena.specs.Key.{key_of};
 ghost use Rattle.pb_schema.specs.Tick.Tree.{Tree};
-ghost use Rattle.arena_run.specs.Words.{IsCat, IsOtherCommand};
+ghost use Rattle.arena_run.specs.Words.{IsCat, HasNoForm, IsOtherCommand, IsUnbuilt};
 ghost use Rattle.arena_run.specs.Contents.{content_of, OfContent, OfTrees, IsThere};
-ghost use Rattle.arena_run.specs.Ends.{status_of, IsParsed, IsUnparsed, IsRead, EndsWell};
-ghost use Rattle.arena_run.specs.Plain.{trees_of};
+ghost use Rattle.arena_run.specs.Ends.{status_of, IsParsed, IsUnparsed, IsUnplaced, IsRead, EndsWell, EndsBy, result_fault};
+ghost use Rattle.arena_run.specs.Faults.{first_fault};
 ghost use Rattle.arena_run.specs.Stands.{AllStand, EachTwo, Differ};
 ghost use Rattle.arena_run.specs.Written.{output_of, TookPart};
 
 use crate::fault::Fault;
-use crate::input::{ReadEnd, read_file};
-use crate::parse::{ParseEnd, parse_frames};
-use crate::words::frames_word;
+use crate::input::read_frames_file;
+use crate::parse::parse_frames;
+use crate::words::{frames_word, has_form};
 use crate::write::write_messages;
 use arena_mem::{Files, Memory, Place, Sink};
 use serial_arena::{SerialArena, blocks_hold_places, places_lie_apart};
@@ -35,12 +35,15 @@ pub struct Outcome {
 
 /// Runs the program with these words over the files, the sink and the arena that are handed in.
 ///
-/// So far one command is built: `cat builtin pb.Tick FRAMES 1` parses each frame of the file into the arena, in order,
-/// and writes each message behind its prefix. FRAMES may be any name. A frames file is plain where it has at most 2^24
-/// bytes, which are at most 2^20 whole frames, each of them whole records of field 1 with wire type 0. All other words,
-/// and files that aren't plain, are refused as `NotBuilt`; a file that can't be read is a `ReadFault`. What is said of a
-/// file's content or of the bytes that were taken holds where the files and the sink tell them. It asks for an arena in
-/// which nothing was placed and nothing is kept.
+/// The words have one of three forms: `cat SET TYPE FRAMES WORKERS`, `run SET TYPE FRAMES SCRIPT WORKERS` and
+/// `gen SEED COUNT WORKERS`; all others are a `Usage`. So far one command is built: `cat builtin pb.Tick FRAMES 1` parses
+/// each frame of the file into the arena, in order, and writes each message behind its prefix. The other commands are
+/// refused as `NotBuilt`. FRAMES may be any name; a file that can't be read is a `ReadFault`, one of more than 2^24 bytes
+/// or 2^20 frames a `TooLong`, one whose frames are cut a `FrameCut`, and one in which a payload has a fault a `BadFrame`.
+/// A file without a fault is still `NotBuilt` where a payload isn't plain, which is whole records of field 1 with wire
+/// type 0. What is said of a file's content or of the bytes that were
+/// taken holds where the files and the sink tell them. It asks for an arena in which nothing was placed and nothing is
+/// kept.
 pub fn run<F: Files, O: Sink>(
     alloc: Global,
     words: &[String],
@@ -70,12 +73,15 @@ pub fn run<F: Files, O: Sink>(
     ensures wrote { (trees : List Tree) → AllStand (places_of result.arena) result.registers.items trees → IfNone result.fault (Appends (O.taken out.old) (O.taken out.new) (output_of trees)) }
     ensures wrote_part { (trees : List Tree) → AllStand (places_of result.arena) result.registers.items trees → result.fault ≡ Some Fault.WriteFault → TookPart (O.taken out.old) (O.taken out.new) (output_of trees) }
 
-    // `NotBuilt` comes exactly where the words or the file ask for it. The words come first, and nothing is picked or
-    // read then; the file's side yields to want of memory and to a fault of reading.
-    ensures not_built { result.fault ≡ Some Fault.NotBuilt → IsOtherCommand (map string_bytes words.now) ⊎ OfContent (map string_bytes words.now) (F.contents files.old) (λ content. trees_of content ≡ None) }
-    ensures other_command { IsOtherCommand (map string_bytes words.now) → result.fault ≡ Some Fault.NotBuilt }
+    // `Usage` and `NotBuilt` come by the words, before anything is picked, read or placed.
+    ensures usage { (result.fault ≡ Some Fault.Usage) ↔ HasNoForm (map string_bytes words.now) }
+    ensures unbuilt { IsUnbuilt (map string_bytes words.now) → result.fault ≡ Some Fault.NotBuilt }
+    ensures not_built { result.fault ≡ Some Fault.NotBuilt → IsUnbuilt (map string_bytes words.now) ⊎ OfContent (map string_bytes words.now) (F.contents files.old) (λ content. first_fault content ≡ Some Fault.NotBuilt) }
     ensures untouched { IsOtherCommand (map string_bytes words.now) → files.new ≡ files.old }
-    ensures not_plain { (frames content : List ℕ) → IsCat (map string_bytes words.now) frames → content_of (F.contents files.old) frames ≡ Some content → trees_of content ≡ None → IsUnparsed result.fault }
+
+    // The other faults of the input come exactly where they are the first of the frames file. It yields to want of memory
+    // and to a fault of reading, and comes before all writing.
+    ensures exact { (frames content : List ℕ) → IsCat (map string_bytes words.now) frames → content_of (F.contents files.old) frames ≡ Some content → EndsBy (first_fault content) result.fault }
     ensures there { (frames : List ℕ) → IsCat (map string_bytes words.now) frames → IsRead result.fault → IsThere (F.contents files.old) frames }
 
     // A fault of the files or of the sink comes only where its count rose in this call. No count falls. Where no
@@ -88,16 +94,16 @@ pub fn run<F: Files, O: Sink>(
     ensures sink_counts { O.faults out.old ≤ O.faults out.new }
     ensures contents { F.contents files.new ≡ F.contents files.old }
 
-    // A plain file that is there ends well, or in want of memory, where nothing failed.
-    ensures complete { (frames content : List ℕ) → IsCat (map string_bytes words.now) frames → content_of (F.contents files.old) frames ≡ Some content → IsSome (trees_of content)
+    // A file without a fault that is there ends well, or in want of memory, where nothing failed.
+    ensures complete { (frames content : List ℕ) → IsCat (map string_bytes words.now) frames → content_of (F.contents files.old) frames ≡ Some content → first_fault content ≡ None
         → (Rose (F.faults files.old) (F.faults files.new) → ⊥) → (Rose (O.faults out.old) (O.faults out.new) → ⊥) → EndsWell result.fault }
 
-    // The arena keeps its owner, life and region, and keeps nothing outside its blocks. It is untouched where reading
-    // failed and for words of no command, and has a place for each frame at the most on whatever fault.
+    // The arena keeps its owner, life and region, and keeps nothing outside its blocks. It is untouched where no payload
+    // was parsed, and has a place for each frame at the most on whatever fault.
     ensures few { finite.len (places_of result.arena) ≤ 2 ^ 20 }
     ensures key { key_of result.arena ≡ key_of arena }
     ensures buffers { buffers_of result.arena ≡ buffers_of arena }
-    ensures unread { result.fault ≡ Some Fault.ReadFault → result.arena ≡ arena }
+    ensures unplaced { IsUnplaced result.fault → result.arena ≡ arena }
     ensures not_run { IsOtherCommand (map string_bytes words.now) → result.arena ≡ arena }
 {
     blocks_hold_places(&arena);
@@ -132,8 +138,7 @@ fn read_messages<F: Files, M: Memory>(
     ensures few { finite.len (M.places mem.new) ≤ finite.len (M.places mem.old) + 2 ^ 20 }
     ensures contents { F.contents files.new ≡ F.contents files.old }
     ensures counts { F.faults files.old ≤ F.faults files.new }
-    ensures there_ok { (frames : List ℕ) → IsCat (map string_bytes words.now) frames → IfOk result (λ _. IsThere (F.contents files.old) frames) }
-    ensures there_built { (frames : List ℕ) → IsCat (map string_bytes words.now) frames → IsErrOf result Fault.NotBuilt → IsThere (F.contents files.old) frames }
+    ensures there { (frames : List ℕ) → IsCat (map string_bytes words.now) frames → IsRead (result_fault result) → IsThere (F.contents files.old) frames }
     ensures unblamed { (IsErrOf result Fault.ReadFault → ⊥) → F.blamed files.new ≡ F.blamed files.old }
     ensures untouched { IsOtherCommand (map string_bytes words.now) → files.new ≡ files.old }
     ensures command { IfOk result (λ _. (frames : List ℕ) × IsCat (map string_bytes words.now) frames) }
@@ -141,34 +146,34 @@ fn read_messages<F: Files, M: Memory>(
     ensures stands { IfOk result (λ messages. (trees : List Tree) × AllStand (M.places mem.new) messages.items trees) }
     ensures counted { IfOk result (λ messages. finite.len (M.places mem.new) ≡ finite.len (M.places mem.old) + length messages.items) }
     ensures differ { IfOk result (λ messages. EachTwo Differ messages.items) }
-    ensures not_built { IsErrOf result Fault.NotBuilt → IsOtherCommand (map string_bytes words.now) ⊎ OfContent (map string_bytes words.now) (F.contents files.old) (λ content. trees_of content ≡ None) }
-    ensures other_command { IsOtherCommand (map string_bytes words.now) → result ≡ Err Fault.NotBuilt }
+    ensures usage { IsErrOf result Fault.Usage → HasNoForm (map string_bytes words.now) }
+    ensures no_form { HasNoForm (map string_bytes words.now) → result ≡ Err Fault.Usage }
+    ensures unbuilt { IsUnbuilt (map string_bytes words.now) → result ≡ Err Fault.NotBuilt }
+    ensures not_built { IsErrOf result Fault.NotBuilt → IsUnbuilt (map string_bytes words.now) ⊎ OfContent (map string_bytes words.now) (F.contents files.old) (λ content. first_fault content ≡ Some Fault.NotBuilt) }
+    ensures exact { (frames content : List ℕ) → IsCat (map string_bytes words.now) frames → content_of (F.contents files.old) frames ≡ Some content → EndsBy (first_fault content) (result_fault result) }
     ensures read_fault { IsErrOf result Fault.ReadFault → Rose (F.faults files.old) (F.faults files.new) }
     ensures blamed { IsErrOf result Fault.ReadFault → (frames : List ℕ) × IsCat (map string_bytes words.now) frames × (F.blamed files.new ≡ Some frames) }
     ensures no_write_fault { IsErrOf result Fault.WriteFault → ⊥ }
-    ensures unread { IsErrOf result Fault.ReadFault → mem.new ≡ mem.old }
+    ensures unplaced { IsUnplaced (result_fault result) → mem.new ≡ mem.old }
     ensures not_run { IsOtherCommand (map string_bytes words.now) → mem.new ≡ mem.old }
     ensures key { M.key mem.new ≡ M.key mem.old }
     ensures rest { KeepsRest (M.places mem.old) (M.places mem.new) }
     ensures buffers { M.buffers mem.new ≡ M.buffers mem.old }
 {
+    if !has_form(words) {
+        return Err(Fault::Usage);
+    }
     let Some(word) = frames_word(words) else {
         return Err(Fault::NotBuilt);
     };
     let Ok(name) = word.clone() else {
         return Err(Fault::NoMemory);
     };
-    let bytes = match read_file(alloc, files, name) {
-        Ok(bytes) => bytes,
-        Err(ReadEnd::NoMemory) => return Err(Fault::NoMemory),
-        Err(ReadEnd::Failed) => return Err(Fault::ReadFault),
-        Err(ReadEnd::TooLong) => return Err(Fault::NotBuilt),
+    let frames = match read_frames_file(alloc, files, name) {
+        Ok(frames) => frames,
+        Err(fault) => return Err(fault),
     };
-    match parse_frames(alloc, mem, &bytes) {
-        Ok(messages) => Ok(messages),
-        Err(ParseEnd::NoMemory) => Err(Fault::NoMemory),
-        Err(ParseEnd::NotPlain) => Err(Fault::NotBuilt),
-    }
+    parse_frames(alloc, mem, &frames)
 }
 
 // Runs the command over any memory, and answers the messages where the frames file was parsed.
@@ -198,12 +203,15 @@ fn cat<F: Files, O: Sink, M: Memory>(
     ensures counted { IsParsed result.0 → finite.len (M.places mem.new) ≡ finite.len (M.places mem.old) + length result.1.items }
     ensures differ { EachTwo Differ result.1.items }
     ensures no_registers { IsUnparsed result.0 → result.1.items ≡ [] }
-    ensures not_built { result.0 ≡ Some Fault.NotBuilt → IsOtherCommand (map string_bytes words.now) ⊎ OfContent (map string_bytes words.now) (F.contents files.old) (λ content. trees_of content ≡ None) }
-    ensures other_command { IsOtherCommand (map string_bytes words.now) → result.0 ≡ Some Fault.NotBuilt }
+    ensures usage { result.0 ≡ Some Fault.Usage → HasNoForm (map string_bytes words.now) }
+    ensures no_form { HasNoForm (map string_bytes words.now) → result.0 ≡ Some Fault.Usage }
+    ensures unbuilt { IsUnbuilt (map string_bytes words.now) → result.0 ≡ Some Fault.NotBuilt }
+    ensures not_built { result.0 ≡ Some Fault.NotBuilt → IsUnbuilt (map string_bytes words.now) ⊎ OfContent (map string_bytes words.now) (F.contents files.old) (λ content. first_fault content ≡ Some Fault.NotBuilt) }
+    ensures exact { (frames content : List ℕ) → IsCat (map string_bytes words.now) frames → content_of (F.contents files.old) frames ≡ Some content → EndsBy (first_fault content) result.0 }
     ensures read_fault { result.0 ≡ Some Fault.ReadFault → Rose (F.faults files.old) (F.faults files.new) }
     ensures blamed { result.0 ≡ Some Fault.ReadFault → (frames : List ℕ) × IsCat (map string_bytes words.now) frames × (F.blamed files.new ≡ Some frames) }
     ensures write_fault { result.0 ≡ Some Fault.WriteFault → Rose (O.faults out.old) (O.faults out.new) }
-    ensures unread { result.0 ≡ Some Fault.ReadFault → mem.new ≡ mem.old }
+    ensures unplaced { IsUnplaced result.0 → mem.new ≡ mem.old }
     ensures not_run { IsOtherCommand (map string_bytes words.now) → mem.new ≡ mem.old }
     ensures key { M.key mem.new ≡ M.key mem.old }
     ensures buffers { M.buffers mem.new ≡ M.buffers mem.old }

@@ -120,49 +120,256 @@ fn messages_are_written_again(rt: HostRuntime) -> Result<(), Fail> {
 }
 
 #[test]
-fn other_files_and_words_are_refused(rt: HostRuntime) -> Result<(), Fail> {
-    let contents: [(&str, &[u8], u64); 5] = [
+fn files_are_refused(rt: HostRuntime) -> Result<(), Fail> {
+    let rows: [(&str, &[u8], u8, Fault, u64); 14] = [
+        ("a cut frame", b"\x05\x08\x01", 4, cut(0), 0),
+        ("a cut length", b"\x02\x08\x01\x80", 4, cut(1), 0),
+        (
+            "a cut frame behind a bad one",
+            b"\x02\x08\x80\x05\x08",
+            4,
+            cut(1),
+            0,
+        ),
         (
             "a value that goes on behind its frame",
             b"\x02\x08\x80\x03\x08\x96\x01\x03\x08\x96\x01",
+            4,
+            bad(0, WireKind::Cut, 1),
+            0,
+        ),
+        (
+            "wire type 7",
+            b"\x01\x07",
+            4,
+            bad(0, WireKind::BadTag, 0),
+            0,
+        ),
+        (
+            "the end of another group",
+            b"\x02\x13\x1c",
+            4,
+            bad(0, WireKind::GroupEnd, 1),
+            0,
+        ),
+        (
+            "a group that isn't closed",
+            b"\x01\x13",
+            4,
+            bad(0, WireKind::Cut, 1),
+            0,
+        ),
+        (
+            "an end of no group",
+            b"\x01\x14",
+            4,
+            bad(0, WireKind::GroupEnd, 0),
+            0,
+        ),
+        (
+            "a length of 2^31",
+            b"\x06\x0a\x80\x80\x80\x80\x08",
+            4,
+            bad(0, WireKind::BadLength, 1),
+            0,
+        ),
+        (
+            "a value of eleven bytes",
+            b"\x0c\x08\x80\x80\x80\x80\x80\x80\x80\x80\x80\x80\x00",
+            4,
+            bad(0, WireKind::LongVarint, 1),
+            0,
+        ),
+        (
+            "the first of two bad frames",
+            b"\x02\x08\x01\x02\x08\x80\x02\x08\x01\x01\x14",
+            4,
+            bad(1, WireKind::Cut, 1),
+            32,
+        ),
+        (
+            "a bad frame behind one that isn't plain",
+            b"\x05\x0d\x01\x02\x03\x04\x02\x08\x80",
+            4,
+            bad(1, WireKind::Cut, 1),
             0,
         ),
         (
             "a group behind a plain frame",
             b"\x02\x08\x01\x04\x13\x08\x01\x14",
+            9,
+            Fault::NotBuilt,
             32,
         ),
-        ("a cut frame", b"\x05\x08\x01", 0),
-        ("a cut value", b"\x02\x08\x80", 0),
-        ("a field of 4 bytes", b"\x05\x0d\x01\x02\x03\x04", 0),
+        (
+            "a field of 4 bytes",
+            b"\x05\x0d\x01\x02\x03\x04",
+            9,
+            Fault::NotBuilt,
+            0,
+        ),
     ];
-    for (name, content, space_used) in contents {
+    for (name, content, status, fault, space_used) in rows {
         let end = end_of_run(rt.alloc(), &CAT, content, &[], 65536, &[])?;
-        check_refused(&rt, &end, 9, Fault::NotBuilt, space_used, name);
-    }
-    let commands: [(&str, &[&str]); 7] = [
-        ("no words", &[]),
-        (
-            "another command",
-            &["arena", "builtin", "pb.Tick", "f", "1"],
-        ),
-        (
-            "another set of types",
-            &["cat", "other", "pb.Tick", "f", "1"],
-        ),
-        ("another type", &["cat", "builtin", "pb.Tock", "f", "1"]),
-        ("two workers", &["cat", "builtin", "pb.Tick", "f", "2"]),
-        ("four words", &["cat", "builtin", "pb.Tick", "f"]),
-        ("six words", &["cat", "builtin", "pb.Tick", "f", "1", "1"]),
-    ];
-    for (name, words) in commands {
-        let end = end_of_run(rt.alloc(), words, b"\x00", &[], 65536, &[])?;
-        check_refused(&rt, &end, 9, Fault::NotBuilt, 0, name);
+        check_refused(&rt, &end, status, fault, space_used, name);
     }
     let missing = ["cat", "builtin", "pb.Tick", "g", "1"];
     let end = end_of_run(rt.alloc(), &missing, b"\x00", &[], 65536, &[])?;
     check_refused(&rt, &end, 6, Fault::ReadFault, 0, "a missing file");
     Ok(())
+}
+
+fn bad(index: u32, kind: WireKind, byte: u32) -> Fault {
+    let fault = WireFault { kind, byte };
+    Fault::BadFrame { index, fault }
+}
+
+fn cut(index: u32) -> Fault {
+    Fault::FrameCut { index }
+}
+
+#[test]
+fn each_front_of_three_frames(rt: HostRuntime) -> Result<(), Fail> {
+    let rows: [(&[u8], Option<u32>, u32); 9] = [
+        (b"", None, 0),
+        (b"\x03", Some(0), 0),
+        (b"\x03\x08", Some(0), 0),
+        (b"\x03\x08\x96", Some(0), 0),
+        (b"\x03\x08\x96\x01", None, 1),
+        (b"\x03\x08\x96\x01\x00", None, 2),
+        (b"\x03\x08\x96\x01\x00\x02", Some(2), 0),
+        (b"\x03\x08\x96\x01\x00\x02\x08", Some(2), 0),
+        (b"\x03\x08\x96\x01\x00\x02\x08\x05", None, 3),
+    ];
+    for (front, whole, messages) in rows {
+        let end = end_of_run(rt.alloc(), &CAT, front, &[], 65536, &[])?;
+        match whole {
+            None => check_well(&rt, &end, front, messages, "a whole front"),
+            Some(index) => check_refused(&rt, &end, 4, cut(index), 0, "a cut front"),
+        }
+    }
+    Ok(())
+}
+
+#[test]
+fn words_are_refused(rt: HostRuntime) -> Result<(), Fail> {
+    let rows: [(&str, &[&str], u8, Fault); 16] = [
+        ("no words", &[], 2, Fault::Usage),
+        (
+            "another command",
+            &["arena", "builtin", "pb.Tick", "f", "1"],
+            2,
+            Fault::Usage,
+        ),
+        (
+            "no worker",
+            &["cat", "builtin", "pb.Tick", "f", "0"],
+            2,
+            Fault::Usage,
+        ),
+        (
+            "65 workers",
+            &["cat", "builtin", "pb.Tick", "f", "65"],
+            2,
+            Fault::Usage,
+        ),
+        (
+            "three digits",
+            &["cat", "builtin", "pb.Tick", "f", "001"],
+            2,
+            Fault::Usage,
+        ),
+        (
+            "a sign",
+            &["cat", "builtin", "pb.Tick", "f", "+1"],
+            2,
+            Fault::Usage,
+        ),
+        (
+            "four words",
+            &["cat", "builtin", "pb.Tick", "f"],
+            2,
+            Fault::Usage,
+        ),
+        (
+            "six words",
+            &["cat", "builtin", "pb.Tick", "f", "1", "1"],
+            2,
+            Fault::Usage,
+        ),
+        (
+            "a seed of 2^32",
+            &["gen", "4294967296", "1", "1"],
+            2,
+            Fault::Usage,
+        ),
+        (
+            "65,536 frames",
+            &["gen", "0", "65536", "1"],
+            2,
+            Fault::Usage,
+        ),
+        ("no count", &["gen", "0", "0", "1"], 2, Fault::Usage),
+        (
+            "another set of types",
+            &["cat", "other", "pb.Tick", "f", "1"],
+            9,
+            Fault::NotBuilt,
+        ),
+        (
+            "another type",
+            &["cat", "builtin", "pb.Tock", "f", "1"],
+            9,
+            Fault::NotBuilt,
+        ),
+        (
+            "64 workers",
+            &["cat", "builtin", "pb.Tick", "f", "64"],
+            9,
+            Fault::NotBuilt,
+        ),
+        (
+            "a script",
+            &["run", "builtin", "pb.Tick", "f", "s", "1"],
+            9,
+            Fault::NotBuilt,
+        ),
+        (
+            "the greatest seed and count",
+            &["gen", "4294967295", "65535", "64"],
+            9,
+            Fault::NotBuilt,
+        ),
+    ];
+    for (name, words, status, fault) in rows {
+        let end = end_of_run(rt.alloc(), words, b"\x00", &[], 65536, &[])?;
+        check_refused(&rt, &end, status, fault, 0, name);
+    }
+    let words = ["cat", "builtin", "pb.Tick", "f", "01"];
+    let end = end_of_run(rt.alloc(), &words, b"\x00", &[], 65536, &[])?;
+    check_well(&rt, &end, b"\x00", 1, "one worker, with a leading zero");
+    Ok(())
+}
+
+#[test]
+fn long_files(rt: HostRuntime) -> Result<(), Fail> {
+    let alloc = rt.alloc();
+    let zeros = vec![in alloc; 0u8; 1048576]?;
+    let end = end_of_run(alloc, &CAT, &zeros, &[], 65536, &[])?;
+    check_well(&rt, &end, &zeros, 1048576, "2^20 frames");
+    let zeros = vec![in alloc; 0u8; 1048577]?;
+    let end = end_of_run(alloc, &CAT, &zeros, &[], 65536, &[])?;
+    let fault = too_long(InputKind::FrameCount, 1048576);
+    check_refused(&rt, &end, 8, fault, 0, "a byte behind 2^20 frames");
+    let zeros = vec![in alloc; 0u8; 16777217]?;
+    let end = end_of_run(alloc, &CAT, &zeros, &[], 65536, &[])?;
+    let fault = too_long(InputKind::FrameBytes, 16777216);
+    check_refused(&rt, &end, 8, fault, 0, "2^24 bytes and one");
+    Ok(())
+}
+
+fn too_long(which: InputKind, limit: u32) -> Fault {
+    Fault::TooLong { which, limit }
 }
 
 #[test]

@@ -1,8 +1,7 @@
-// Reading varints, frames and records at a place of the bytes.
-ghost use Rattle.std.specs.Prelude.{◌≡◌, ◌+◌, ◌≤◌, ◌<◌, ℕ, length, take, drop, Some, IfSome};
+// Reading varints and records at a place of the bytes.
+ghost use Rattle.std.specs.Prelude.{◌≡◌, ◌+◌, ◌≤◌, ◌<◌, length, take, drop, Some, IfSome};
 ghost use Rattle.std.specs.Option.{option_map};
 ghost use Rattle.pb_schema.specs.Varint.{varint_at};
-ghost use Rattle.pb_schema.specs.Frames.{frame_at};
 ghost use Rattle.pb_schema.specs.Tick.Records.{record_at};
 ghost use Rattle.pb_schema.specs.Tick.Tree.{tick};
 ghost use Rattle.pb_schema.specs.Tick.Decode.{tree_of};
@@ -15,9 +14,6 @@ const TAG_BYTES: usize = 5;
 
 /// The most bytes of a value.
 const VALUE_BYTES: usize = 10;
-
-/// Payloads are shorter than this.
-const LENGTH_END: u64 = 1 << 31;
 
 // The varint of at most `most` bytes at `start`.
 #[inline]
@@ -89,23 +85,6 @@ fn read_long(bytes: &[u8], start: usize, end: usize) -> Option<(u64, usize)>
     read_varint(&bytes[..end], start, VALUE_BYTES)
 }
 
-/// Where the payload of the frame at `start` begins, and where it ends; none where no whole frame stands there.
-pub fn read_frame(bytes: &[u8], start: usize) -> Option<(usize, usize)>
-    requires { start ≤ length bytes.now }
-    ensures found { option_map (λ frame. (drop frame.0 (take frame.1 bytes.now), frame.1)) result ≡ moved start (frame_at (drop start bytes.now)) }
-    ensures bound { IfSome result (λ frame. (start < frame.1) × (frame.0 ≤ frame.1) × (frame.1 ≤ length bytes.now)) }
-{
-    let (len, at) = read_varint(bytes, start, TAG_BYTES)?;
-    if len >= LENGTH_END {
-        return None;
-    }
-    let len = len as usize;
-    if bytes.len() - at < len {
-        return None;
-    }
-    Some((at, at + len))
-}
-
 // The value of the record of field 1 at `start`, which ends before `end`, and where the record ends.
 #[inline]
 fn read_record(bytes: &[u8], start: usize, end: usize) -> Option<(u64, usize)>
@@ -121,17 +100,16 @@ fn read_record(bytes: &[u8], start: usize, end: usize) -> Option<(u64, usize)>
     read_long(bytes, at, end)
 }
 
-/// The number of the field in the payload from `start` to `end`: its last value, or the default; none where the payload
-/// isn't plain.
-pub fn read_value(bytes: &[u8], start: usize, end: usize) -> Option<u64>
-    requires start { start ≤ end }
-    requires end { end ≤ length bytes.now }
-    ensures { option_map tick result ≡ tree_of (drop start (take end bytes.now)) }
+/// The number of the field in the payload that the first `len` of the bytes are: its last value, or the default; none
+/// where the payload isn't plain. What follows is looked at, so that short payloads are read as fast, and doesn't count.
+pub fn read_value(bytes: &[u8], len: usize) -> Option<u64>
+    requires { len ≤ length bytes.now }
+    ensures { option_map tick result ≡ tree_of (take len bytes.now) }
 {
     let mut value = 0;
-    let mut at = start;
-    while at < end {
-        let (next, behind) = read_record(bytes, at, end)?;
+    let mut at = 0;
+    while at < len {
+        let (next, behind) = read_record(bytes, at, len)?;
         value = next;
         at = behind;
     }

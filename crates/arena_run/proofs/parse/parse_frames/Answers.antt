@@ -1,73 +1,48 @@
-use Rattle.std.proofs.Common.{◌≡◌, ◌+◌, ◌≤◌, ◌++◌, [], ◌∷◌, cond, List, length, take, drop, refl, sym, ap, ◌∙◌, subst, arith}
+use Rattle.std.proofs.Common.{◌≡◌, ◌+◌, ◌≤◌, ◌++◌, [], ◌∷◌, cond, List, length, take, sym, ap, ◌∙◌, subst, arith}
+use Rattle.std.proofs.lemmas.List.{length_push, take_all}
 use Rattle.arena_mem.specs.declared.place.Place.{Place}
-use Rattle.std.proofs.lemmas.List.{length_push}
-use Rattle.pb_schema.specs.Frames.{frame_at}
 use Rattle.pb_schema.specs.Tick.Tree.{tick}
-use Rattle.arena_run.proofs.Reading.{found_from_moved, none_from_moved}
-use Rattle.arena_run.proofs.Parsing.{ParsedTo, parsed_none, parsed_more, parsed_all, cut_frame, bad_payload, too_many_frames, blocks_within}
+use Rattle.arena_run.proofs.Sound.{plain_sound}
+use Rattle.arena_run.proofs.Parsing.{sound_more, all_plain, ParsedTo, parsed_more, parsed_all, taken_more, bad_payload, blocks_within}
 use Rattle.arena_run.proofs.parse.parse_frames.Goals as goal
 
-pub loop-at-init : goal.loop-at-init
-loop-at-init g c =
-    let none = c.in_ok-messages.ensures.empty in
-    let count = ap length none in
-    record {
-      within = omega arith;
-      few = omega arith;
-      parsed = subst (ParsedTo c.args.bytes.now 0 (g.M.Memory.places c.args.mem.now)) (sym none) (parsed_none c.args.bytes.now (g.M.Memory.places c.args.mem.now));
-      block_counts = λ region. omega (arith, c.requires region);
-      counted = omega (arith, count);
-      key = refl;
-      rest = λ q was found. found;
-      buffers = refl;
-    }
+pub refusal-requires-clause-not_plain : goal.refusal-requires-clause-not_plain
+refusal-requires-clause-not_plain g c =
+    let payload = take c.payload_and_behind-len.result.1 c.payload_and_behind-len.result.0.now in
+    bad_payload c.args.frames.now c.loop-index.index payload (g.M.Memory.places c.loop-index.mem) c.loop-index.messages.items c.loop-index.invariant.parsed c.payload_and_behind-len.ensures.payload (sym c.in_default.ensures)
 
-pub returns-in_default-clause-not_plain : goal.returns-in_default-clause-not_plain
-returns-in_default-clause-not_plain g c = λ _.
-    let bytes = c.args.bytes.now in
-    let at = c.loop-at.at in
-    cut_frame bytes at _ _ c.loop-at.invariant.parsed c.loop-at-test.true (none_from_moved (frame_at (drop at bytes)) at c.in_default.ensures.found)
-
-pub returns-then-len-ge-FRAME_COUNT_LIMIT-clause-not_plain : goal.returns-then-len-ge-FRAME_COUNT_LIMIT-clause-not_plain
-returns-then-len-ge-FRAME_COUNT_LIMIT-clause-not_plain g c = λ _.
-    let bytes = c.args.bytes.now in
-    let at = c.loop-at.at in
-    let found = found_from_moved (frame_at (drop at bytes)) at (drop c.in-Some.start (take c.in-Some.end c.args.bytes.now)) c.in-Some.end c.in-Some.ensures.found in
-    too_many_frames bytes at _ c.loop-at.messages.items (drop c.in-Some.start (take c.in-Some.end c.args.bytes.now)) found.bytes c.loop-at.invariant.parsed c.loop-at-test.true found.is (omega (arith, c.loop-at.messages.ok.0))
-
-pub returns-in_default-read_value-clause-not_plain : goal.returns-in_default-read_value-clause-not_plain
-returns-in_default-read_value-clause-not_plain g c = λ _.
-    let bytes = c.args.bytes.now in
-    let at = c.loop-at.at in
-    let found = found_from_moved (frame_at (drop at bytes)) at (drop c.in-Some.start (take c.in-Some.end c.args.bytes.now)) c.in-Some.end c.in-Some.ensures.found in
-    bad_payload bytes at _ c.loop-at.messages.items (drop c.in-Some.start (take c.in-Some.end c.args.bytes.now)) found.bytes c.loop-at.invariant.parsed c.loop-at-test.true found.is (sym c.in_default-read_value.ensures)
-
-pub returns-in_default-create-clause-rest : goal.returns-in_default-create-clause-rest
-returns-in_default-create-clause-rest g c = λ q was live. c.create.ensures.rest q was (c.loop-at.invariant.rest q was live)
-
-pub loop-at-preserved : goal.loop-at-preserved
-loop-at-preserved g c =
+pub loop-index-preserved : goal.loop-index-preserved
+loop-index-preserved g c =
     let M = g.M.Memory in
-    let bytes = c.args.bytes.now in
-    let at = c.loop-at.at in
-    let before = c.loop-at.messages.items in
-    let found = found_from_moved (frame_at (drop at bytes)) at (drop c.in-Some.start (take c.in-Some.end c.args.bytes.now)) c.in-Some.end c.in-Some.ensures.found in
+    let before = c.loop-index.messages.items in
+    let payload = take c.payload_and_behind-len.result.1 c.payload_and_behind-len.result.0.now in
+    let so_far = c.loop-index.invariant in
     let pushed : c.push.new.self.items ≡ before ++ c.in-Ok.message ∷ [] = ◌∙◌ {A = List Place} c.push.ensures.items (ap (λ b. cond b (before ++ c.in-Ok.message ∷ []) before) c.if-is_err.ensures.negation) in
     let count : length c.push.new.self.items ≡ length before + 1 = ap length pushed ∙ length_push before c.in-Ok.message in
-    let parsed = parsed_more bytes at (M.places c.loop-at.mem) (M.places c.create.new.mem) before (drop c.in-Some.start (take c.in-Some.end c.args.bytes.now)) found.bytes (tick c.in-Some-read_value.value) c.in-Ok.message
-    c.loop-at.invariant.parsed c.loop-at-test.true found.is (sym c.in-Some-read_value.ensures) c.in-Ok.ensures.fresh c.in-Ok.ensures.stands c.create.ensures.rest in
+    let parsed = parsed_more (take c.loop-index.index c.args.frames.now) (M.places c.loop-index.mem) (M.places c.create.new.mem) before payload (tick c.in-Some.value) c.in-Ok.message
+    so_far.parsed (sym c.in-Some.ensures) c.in-Ok.ensures.fresh c.in-Ok.ensures.stands c.create.ensures.rest in
+    let sound = plain_sound payload (tick c.in-Some.value) (sym c.in-Some.ensures) in
     record {
-      within = omega (arith, c.in-Some.ensures.bound);
-      few = omega (arith, c.loop-at.messages.ok.0);
-      parsed = subst (λ k. ParsedTo bytes k (M.places c.create.new.mem) c.push.new.self.items) (sym found.end_is)
-          (subst (ParsedTo bytes (at + found.bytes) (M.places c.create.new.mem)) (sym pushed) parsed);
-      block_counts = λ region. subst (λ n. M.blocks c.create.new.mem region ≤ n) (sym count) (blocks_within (M.blocks c.loop-at.mem) (M.blocks c.create.new.mem) (length before) c.create.ensures.block_counts c.loop-at.invariant.block_counts region);
-      counted = omega (arith, c.in-Ok.ensures.counted, c.loop-at.invariant.counted, count);
-      key = c.create.ensures.key ∙ c.loop-at.invariant.key;
-      rest = λ q was live. c.create.ensures.rest q was (c.loop-at.invariant.rest q was live);
-      buffers = c.create.ensures.buffers ∙ c.loop-at.invariant.buffers;
+      sound = sound_more c.args.frames.now c.loop-index.index payload so_far.sound c.payload_and_behind-len.ensures.payload sound;
+      parsed = subst (λ ps. ParsedTo ps (M.places c.create.new.mem) c.push.new.self.items) (sym (taken_more c.args.frames.now c.loop-index.index payload c.payload_and_behind-len.ensures.payload))
+          (subst (ParsedTo (take c.loop-index.index c.args.frames.now ++ payload ∷ []) (M.places c.create.new.mem)) (sym pushed) parsed);
+      done = omega (arith, count, so_far.done);
+      block_counts = λ region. blocks_within (M.blocks c.loop-index.mem) (M.blocks c.create.new.mem) c.loop-index.index c.create.ensures.block_counts so_far.block_counts region;
+      counted = omega (arith, c.in-Ok.ensures.counted, so_far.counted, count);
+      key = c.create.ensures.key ∙ so_far.key;
+      rest = λ q was live. c.create.ensures.rest q was (so_far.rest q was live);
+      buffers = c.create.ensures.buffers ∙ so_far.buffers;
     }
 
 pub returns-clause-stand : goal.returns-clause-stand
 returns-clause-stand g c =
-    parsed_all c.args.bytes.now c.loop-at.at _ c.loop-at.messages.items c.loop-at.invariant.parsed c.loop-at-test.false c.loop-at.invariant.few
+    let all = take_all c.loop-index.index c.args.frames.now (omega (arith, c.loop-index-test.false, c.count-count.ensures)) in
+    parsed_all c.args.frames.now (g.M.Memory.places c.loop-index.mem) c.loop-index.messages.items
+    (subst (λ ps. ParsedTo ps (g.M.Memory.places c.loop-index.mem) c.loop-index.messages.items) all c.loop-index.invariant.parsed)
+
+pub returns-clause-sound : goal.returns-clause-sound
+returns-clause-sound g c =
+    let past : length c.args.frames.now ≤ c.loop-index.index = omega (arith, c.loop-index-test.false, c.count-count.ensures) in
+    let all = take_all c.loop-index.index c.args.frames.now past in
+    all_plain c.args.frames.now c.loop-index.index (g.M.Memory.places c.loop-index.mem) c.loop-index.messages.items c.loop-index.invariant.sound past
+    (subst (λ ps. ParsedTo ps (g.M.Memory.places c.loop-index.mem) c.loop-index.messages.items) all c.loop-index.invariant.parsed)

@@ -8,17 +8,17 @@ use Rattle.arena_run.proofs.wire.read_value.Goals as goal
 
 pub returns-in_err-next : goal.returns-in_err-next
 returns-in_err-next c =
-    let bytes = take c.args.end c.args.bytes.now in
+    let bytes = take c.args.len c.args.bytes.now in
     let at = c.loop-at.at in
-    let inside : at < length bytes = omega (arith, length-take c.args.end c.args.bytes.now) in
+    let inside : at < length bytes = omega (arith, length-take c.args.len c.args.bytes.now) in
     let cut = none_from_moved (record_at 1 (drop at bytes)) at c.in_err-next.ensures.found in
-    ap (option_map tick) (c.from_residual.ensures ∙ sym (last_after_cut 1 bytes at c.loop-at.value inside cut) ∙ c.loop-at.invariant.last) ∙ sym (last_after_none (drop c.args.start bytes))
+    ap (option_map tick) (c.from_residual.ensures ∙ sym (last_after_cut 1 bytes at c.loop-at.value inside cut) ∙ c.loop-at.invariant.last) ∙ sym (last_after_none bytes)
 
 pub loop-at-preserved : goal.loop-at-preserved
 loop-at-preserved c =
-    let bytes = take c.args.end c.args.bytes.now in
+    let bytes = take c.args.len c.args.bytes.now in
     let at = c.loop-at.at in
-    let inside : at < length bytes = omega (arith, length-take c.args.end c.args.bytes.now) in
+    let inside : at < length bytes = omega (arith, length-take c.args.len c.args.bytes.now) in
     let found = found_from_moved (record_at 1 (drop at bytes)) at c.in_ok-next.next c.in_ok-next.behind c.in_ok-next.ensures.found in
     record {
       within = omega (arith, c.in_ok-next.ensures.bound);

@@ -6,9 +6,9 @@ use Rattle.arena_run.proofs.wire.read_value.Given as goal
 abbrev pub invariant-loop-at : goal.invariant-loop-at
 invariant-loop-at l =
     record {
-      within : l.at ≤ l.fn.end;
-      last : last_after 1 l.value (drop l.at (take l.fn.end l.fn.bytes)) ≡ last_after 1 0 (drop l.fn.start (take l.fn.end l.fn.bytes));
+      within : l.at ≤ l.len;
+      last : last_after 1 l.value (drop l.at (take l.len l.bytes)) ≡ last_after 1 0 (take l.len l.bytes);
     }
 
 abbrev pub decreases-loop-at : goal.decreases-loop-at
-decreases-loop-at l = l.fn.end - l.at
+decreases-loop-at l = l.len - l.at
