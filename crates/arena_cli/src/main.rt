@@ -34,11 +34,11 @@ fn main(rt: HostRuntime) -> ExitCode {
     }
 }
 
-// The program's arguments without its own name. What isn't text is no word of any command.
+// The program's arguments without its own name. Words that aren't text have none of the forms.
 fn words_of(rt: &HostRuntime) -> Result<Vec<String>, Fault> {
     let args = env::args(rt).map_err(|error| match error.kind() {
         io::ErrorKind::OutOfMemory => Fault::NoMemory,
-        _ => Fault::NotBuilt,
+        _ => Fault::Usage,
     })?;
     args.skip(1)
         .collect(rt.alloc())

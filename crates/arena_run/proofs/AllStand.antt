@@ -1,88 +1,147 @@
 -- Messages that stand for trees, one by one.
-use Rattle.std.proofs.Common.{◌≡◌, ◌+◌, ◌<◌, ℕ, zero, suc, List, [], ◌∷◌, ◌++◌, length, get_or, take, drop, Option, None, Some, refl, sym, ap, ◌∙◌, subst, append_assoc, append-nil, take-append-drop, arith}
+use Rattle.std.proofs.Common.{◌≡◌, ◌+◌, ◌<◌, ◌≤◌, ℕ, zero, suc, List, [], ◌∷◌, ◌++◌, length, get_or, take, drop, refl, sym, ap, ◌∙◌, subst, append_assoc, append-nil, take-append-drop, length-append, arith}
 use Rattle.std.proofs.lemmas.List.Concat.{flat_map-append}
-use Rattle.std.specs.Io.KnownBytes.{Appends, Keeps, append_known}
-use Rattle.std.specs.Prelude.{IsSome, IsSomeAnd}
+use Rattle.std.proofs.lemmas.List.{take_all}
 use Rattle.std.specs.List.{AllByRecursion}
-use Rattle.std.specs.FinMap as map
 use Rattle.arena_mem.specs.declared.place.Place.{Place}
-use Rattle.arena_mem.specs.Places.{Places, IsLive}
-use Rattle.pb_schema.specs.Tick.Tree.{Tree, tick, number_of}
-use Rattle.pb_schema.specs.Tick.Text.{text_of}
-use Rattle.pb_schema.specs.Text.{framed}
-use Rattle.arena_run.specs.Stands.{IsRecordOf, Stands, AllStand, EachTwo, Differ}
-use Rattle.arena_run.specs.Written.{output_of}
-use Rattle.arena_run.proofs.Messages.{number_of-tick}
-use Rattle.arena_run.proofs.Taken.{gathered_more}
+use Rattle.arena_mem.specs.Places.{Places, Buffers, IsLive, KeepsRest, KeepsBuffers}
+use Rattle.pb_schema.specs.Tree.{Tree}
+use Rattle.arena_run.specs.Stands.{Foot, InPlace, Stands, AllStand, StandApart, IsMadeAnew, tick, how_many, EachTwo, Differ}
+use Rattle.arena_run.specs.Written.{frame_of, output_of}
+use Rattle.arena_run.proofs.Feet.{IsThere, all_join, each_join}
+use Rattle.arena_run.proofs.Messages.{stands_tick, stands_kept, stands_there}
+
+-- ONE OF THEM
 
 pub output_parts : (trees : List Tree) (i : ℕ) → output_of trees ≡ output_of (take i trees) ++ output_of (drop i trees)
-output_parts trees i = ap output_of (sym (take-append-drop i trees)) ∙ flat_map-append (λ t. framed (text_of t)) (take i trees) (drop i trees)
+output_parts trees i = ap output_of (sym (take-append-drop i trees)) ∙ flat_map-append frame_of (take i trees) (drop i trees)
 
--- one message of them, with its tree, and what the trees up to it write
-pub record StandsAt (places : Places) (trees : List Tree) (p : Place) (i : ℕ) : Type 0 where
-  pub tree : Tree
-  pub stands : Stands places p tree
-  pub output : output_of (take (i + 1) trees) ≡ output_of (take i trees) ++ framed (text_of tree)
+-- one message of them, with its number and unknown bytes, and what the trees up to it write
+pub record StandsAt (places : Places) (buffers : Buffers) (trees : List Tree) (p : Place) (i : ℕ) : Type 0 where
+  pub value : ℕ
+  pub unknown : List ℕ
+  pub own : List Foot
+  pub stands : Stands places buffers p (tick value unknown) own
+  pub output : output_of (take (i + 1) trees) ≡ output_of (take i trees) ++ frame_of (tick value unknown)
 
-later : (places : Places) (trees : List Tree) (first : Tree) (p : Place) (i : ℕ) → StandsAt places trees p i → StandsAt places (first ∷ trees) p (suc i)
-later places trees first p i at =
+first_at : (places : Places) (buffers : Buffers) (trees : List Tree) (tree : Tree) (p : Place) (own : List Foot) → Stands places buffers p tree own → StandsAt places buffers (tree ∷ trees) p 0
+first_at places buffers trees tree p own stands =
+    let it = stands_tick places buffers p tree own stands in
     record {
-      tree = at.tree;
+      value = it.value;
+      unknown = it.unknown;
+      own = own;
+      stands = subst (λ t. Stands places buffers p t own) it.is stands;
+      output = append-nil (frame_of tree) ∙ ap frame_of it.is;
+    }
+
+later : (places : Places) (buffers : Buffers) (trees : List Tree) (first : Tree) (p : Place) (i : ℕ) → StandsAt places buffers trees p i → StandsAt places buffers (first ∷ trees) p (suc i)
+later places buffers trees first p i at =
+    record {
+      value = at.value;
+      unknown = at.unknown;
+      own = at.own;
       stands = at.stands;
-      output = ap (λ k. output_of (take k (first ∷ trees))) (sym_step i) ∙ ap (λ bs. framed (text_of first) ++ bs) at.output ∙ sym (append_assoc (framed (text_of first)) (output_of (take i trees)) (framed (text_of at.tree)));
+      output = ap (λ k. output_of (take k (first ∷ trees))) (next i) ∙ ap (λ bs. frame_of first ++ bs) at.output ∙ sym (append_assoc (frame_of first) (output_of (take i trees)) (frame_of (tick at.value at.unknown)));
     }
   where
-    sym_step : (n : ℕ) → suc n + 1 ≡ suc (n + 1)
-    sym_step n = omega arith
+    next : (n : ℕ) → suc n + 1 ≡ suc (n + 1)
+    next n = omega arith
 
-pub stands_at_index : (places : Places) (ps : List Place) (trees : List Tree) (i : ℕ) (d : Place) → i < length ps → AllStand places ps trees → StandsAt places trees (get_or ps i d) i
-stands_at_index places [] trees i d within all = absurd (omega arith)
-stands_at_index places (p ∷ ps) [] i d within all = absurd all
-stands_at_index places (p ∷ ps) (tree ∷ trees) zero d within all = record { tree = tree; stands = all.0; output = append-nil (framed (text_of tree)) }
-stands_at_index places (p ∷ ps) (tree ∷ trees) (suc i) d within all = later places trees tree _ i (stands_at_index places ps trees i d (omega arith) all.1)
+pub stands_at_index : (places : Places) (buffers : Buffers) (ps : List Place) (trees : List Tree) (feet : List Foot) (i : ℕ) (d : Place) → i < length ps → AllStand places buffers ps trees feet → StandsAt places buffers trees (get_or ps i d) i
+stands_at_index places buffers [] trees feet i d within all = absurd (omega arith)
+stands_at_index places buffers (p ∷ ps) [] feet i d within all = absurd all
+stands_at_index places buffers (p ∷ ps) (tree ∷ trees) feet zero d within all = first_at places buffers trees tree p all.0 all.3
+stands_at_index places buffers (p ∷ ps) (tree ∷ trees) feet (suc i) d within all = later places buffers trees tree _ i (stands_at_index places buffers ps trees all.1 i d (omega arith) all.4)
 
-pub AllStand-length : (places : Places) (ps : List Place) (trees : List Tree) → AllStand places ps trees → length trees ≡ length ps
-AllStand-length places [] [] all = refl
-AllStand-length places [] (tree ∷ trees) all = absurd all
-AllStand-length places (p ∷ ps) [] all = absurd all
-AllStand-length places (p ∷ ps) (tree ∷ trees) all = ap suc (AllStand-length places ps trees all.1)
+pub AllStand-length : (places : Places) (buffers : Buffers) (ps : List Place) (trees : List Tree) (feet : List Foot) → AllStand places buffers ps trees feet → length trees ≡ length ps
+AllStand-length places buffers [] [] feet all = refl
+AllStand-length places buffers [] (tree ∷ trees) feet all = absurd all
+AllStand-length places buffers (p ∷ ps) [] feet all = absurd all
+AllStand-length places buffers (p ∷ ps) (tree ∷ trees) feet all = ap suc (AllStand-length places buffers ps trees all.1 all.4)
 
--- the tree of a message is that of its number
-pub tree_of_number : (places : Places) (p : Place) (tree : Tree) → Stands places p tree → tick (number_of tree) ≡ tree
-tree_of_number places p tree stands = from_record (map.get places p) stands
-  where
-    of_field : (v : ℕ) → tree ≡ tick v → tick (number_of tree) ≡ tree
-    of_field v e = ap (λ t. tick (number_of t)) e ∙ ap tick (number_of-tick v) ∙ sym e
+-- behind the last message all of them are written
+pub all_written : (places : Places) (buffers : Buffers) (ps : List Place) (trees : List Tree) (feet : List Foot) (i : ℕ) → length ps ≤ i → AllStand places buffers ps trees feet → output_of (take i trees) ≡ output_of trees
+all_written places buffers ps trees feet i past all = let same = AllStand-length places buffers ps trees feet all in let short : length trees ≤ i = omega arith in ap output_of (take_all i trees short)
 
-    from_record : (found : Option (List ℕ)) → IsSomeAnd found (λ bytes. IsRecordOf bytes tree) → tick (number_of tree) ≡ tree
-    from_record None h = absurd h
-    from_record (Some bytes) h = of_field _ h.field
+-- IN A MEMORY THAT GROWS
 
--- the frame of the next message is gathered, behind room that was made
-pub frame_gathered : (places : Places) (trees : List Tree) (p : Place) (i : ℕ) (a b c : Option (List ℕ)) (piece room now : List ℕ) (v : ℕ) (at : StandsAt places trees p i) → v ≡ number_of at.tree
-    → now ≡ room ++ framed (text_of (tick v)) → Appends a (append_known b piece) (output_of (take i trees)) → Keeps (append_known b piece) (append_known c room) → Appends a (append_known c now) (output_of (take (i + 1) trees))
-frame_gathered places trees p i a b c piece room now v at is_number is_now so_far made =
-    let frame = framed (text_of at.tree) in
-    let of_tree : room ++ frame ≡ now = sym (is_now ∙ ap (λ n. room ++ framed (text_of (tick n))) is_number ∙ ap (λ t. room ++ framed (text_of t)) (tree_of_number places p at.tree at.stands)) in
-    subst (λ bs. Appends a (append_known c bs) (output_of (take (i + 1) trees))) of_tree
-    (subst (Appends a (append_known c (room ++ frame))) (sym at.output) (gathered_more a b c piece room frame (output_of (take i trees)) so_far made))
+-- the same bytes at their feet: they stand for the trees in the new memory too
+pub all_stand_kept : (places new_places : Places) (buffers new_buffers : Buffers) (ps : List Place) (trees : List Tree) (feet : List Foot) → KeepsRest places new_places → KeepsBuffers buffers new_buffers → AllStand places buffers ps trees feet → AllStand new_places new_buffers ps trees feet
+all_stand_kept places new_places buffers new_buffers [] [] feet rest kept all = all
+all_stand_kept places new_places buffers new_buffers [] (tree ∷ trees) feet rest kept all = absurd all
+all_stand_kept places new_places buffers new_buffers (p ∷ ps) [] feet rest kept all = absurd all
+all_stand_kept places new_places buffers new_buffers (p ∷ ps) (tree ∷ trees) feet rest kept all =
+    (all.0, all.1, all.2, stands_kept places new_places buffers new_buffers p tree all.0 rest kept all.3, all_stand_kept places new_places buffers new_buffers ps trees all.1 rest kept all.4)
 
--- a message is live
-live : (places : Places) (p : Place) (tree : Tree) → Stands places p tree → IsLive places p
-live places p tree stands = go (map.get places p) stands
-  where
-    go : (found : Option (List ℕ)) → IsSomeAnd found (λ bytes. IsRecordOf bytes tree) → IsSome found
-    go None h = absurd h
-    go (Some bytes) h = refl
+-- their feet are live and kept
+pub all_stand_there : (places : Places) (buffers : Buffers) (ps : List Place) (trees : List Tree) (feet : List Foot) → AllStand places buffers ps trees feet → AllByRecursion (IsThere places buffers) feet
+all_stand_there places buffers [] [] feet all = subst (AllByRecursion (IsThere places buffers)) (sym all) tt
+all_stand_there places buffers [] (tree ∷ trees) feet all = absurd all
+all_stand_there places buffers (p ∷ ps) [] feet all = absurd all
+all_stand_there places buffers (p ∷ ps) (tree ∷ trees) feet all =
+    subst (AllByRecursion (IsThere places buffers)) (sym all.2)
+    (all_join (IsThere places buffers) all.0 all.1 (stands_there places buffers p tree all.0 all.3) (all_stand_there places buffers ps trees all.1 all.4))
 
--- what holds of two live places that differ holds of any two messages that do
-each_live : (places : Places) (R : Place → Place → Type 0) (p : Place) (ps : List Place) (trees : List Tree) → ((a b : Place) → IsLive places a → IsLive places b → Differ a b → R a b) → IsLive places p
-    → AllStand places ps trees → AllByRecursion (Differ p) ps → AllByRecursion (R p) ps
-each_live places R p [] trees law here all differ = tt
-each_live places R p (q ∷ ps) [] law here all differ = absurd all
-each_live places R p (q ∷ ps) (tree ∷ trees) law here all differ = (law p q here (live places q tree all.0) differ.0, each_live places R p ps trees law here all.1 differ.1)
+-- one more behind them
+pub all_stand_more : (places : Places) (buffers : Buffers) (ps : List Place) (trees : List Tree) (feet own : List Foot) (p : Place) (tree : Tree) → AllStand places buffers ps trees feet → Stands places buffers p tree own → AllStand places buffers (ps ++ p ∷ []) (trees ++ tree ∷ []) (feet ++ own)
+all_stand_more places buffers [] [] feet own p tree all stands = (own, [], ap (λ xs. xs ++ own) all ∙ sym (append-nil own), stands, refl)
+all_stand_more places buffers [] (t ∷ trees) feet own p tree all stands = absurd all
+all_stand_more places buffers (q ∷ ps) [] feet own p tree all stands = absurd all
+all_stand_more places buffers (q ∷ ps) (t ∷ trees) feet own p tree all stands =
+    (all.0, all.1 ++ own, ap (λ xs. xs ++ own) all.2 ∙ append_assoc all.0 all.1 own, all.3, all_stand_more places buffers ps trees all.1 own p tree all.4 stands)
 
-pub each_two_live : (places : Places) (R : Place → Place → Type 0) (ps : List Place) (trees : List Tree) → ((a b : Place) → IsLive places a → IsLive places b → Differ a b → R a b) → AllStand places ps trees → EachTwo Differ ps → EachTwo R ps
-each_two_live places R [] trees law all differ = tt
-each_two_live places R (p ∷ ps) [] law all differ = absurd all
-each_two_live places R (p ∷ ps) (tree ∷ trees) law all differ = (each_live places R p ps trees law (live places p tree all.0) all.1 differ.0, each_two_live places R ps trees law all.1 differ.1)
+-- EACH ON FEET OF ITS OWN
+
+pub apart_none : (others : ℕ) (places : Places) (buffers : Buffers) → how_many places buffers ≡ others → StandApart others places buffers [] []
+apart_none others places buffers only = record { feet = []; stand = refl; once = tt; only = omega (arith, only) }
+
+-- a message that was made anew stands apart from those before
+pub apart_more : (others : ℕ) (places new_places : Places) (buffers new_buffers : Buffers) (ps : List Place) (trees : List Tree) (p : Place) (tree : Tree) → KeepsRest places new_places → KeepsBuffers buffers new_buffers
+    → StandApart others places buffers ps trees → IsMadeAnew places buffers new_places new_buffers p tree → StandApart others new_places new_buffers (ps ++ p ∷ []) (trees ++ tree ∷ [])
+apart_more others places new_places buffers new_buffers ps trees p tree rest kept apart made = record {
+  feet = apart.feet ++ made.feet;
+  stand = all_stand_more new_places new_buffers ps trees apart.feet made.feet p tree (all_stand_kept places new_places buffers new_buffers ps trees apart.feet rest kept apart.stand) made.stands;
+  once = each_join places buffers apart.feet made.feet (all_stand_there places buffers ps trees apart.feet apart.stand) made.free apart.once made.once;
+  only = omega (arith, made.counted, apart.only, length-append apart.feet made.feet);
+}
+
+-- what holds of two live or kept feet that differ holds of any two of them
+all_there : (places : Places) (buffers : Buffers) (R : Foot → Foot → Type 0) (x : Foot) (ys : List Foot) → ((a b : Foot) → IsThere places buffers a → IsThere places buffers b → Differ a b → R a b) → IsThere places buffers x
+    → AllByRecursion (IsThere places buffers) ys → AllByRecursion (Differ x) ys → AllByRecursion (R x) ys
+all_there places buffers R x [] law here there differ = tt
+all_there places buffers R x (y ∷ ys) law here there differ = (law x y here there.0 differ.0, all_there places buffers R x ys law here there.1 differ.1)
+
+pub each_two_there : (places : Places) (buffers : Buffers) (R : Foot → Foot → Type 0) (feet : List Foot) → ((a b : Foot) → IsThere places buffers a → IsThere places buffers b → Differ a b → R a b)
+    → AllByRecursion (IsThere places buffers) feet → EachTwo Differ feet → EachTwo R feet
+each_two_there places buffers R [] law there differ = tt
+each_two_there places buffers R (x ∷ xs) law there differ = (all_there places buffers R x xs law there.0 there.1 differ.0, each_two_there places buffers R xs law there.1 differ.1)
+
+-- the same of the places of their records
+
+all_behind : (P : Foot → Type 0) (xs ys : List Foot) → AllByRecursion P (xs ++ ys) → AllByRecursion P ys
+all_behind P [] ys all = all
+all_behind P (x ∷ xs) ys all = all_behind P xs ys all.1
+
+each_behind : (R : Foot → Foot → Type 0) (xs ys : List Foot) → EachTwo R (xs ++ ys) → EachTwo R ys
+each_behind R [] ys each = each
+each_behind R (x ∷ xs) ys each = each_behind R xs ys each.1
+
+record_live : (places : Places) (buffers : Buffers) (p : Place) (tree : Tree) (own : List Foot) → Stands places buffers p tree own → IsLive places p
+record_live places buffers p tree own stands = let there : AllByRecursion (IsThere places buffers) (InPlace p ∷ stands.behind) = subst (AllByRecursion (IsThere places buffers)) stands.feet_are (stands_there places buffers p tree own stands) in there.0
+
+each_live : (places : Places) (buffers : Buffers) (R : Place → Place → Type 0) (x : Place) (ps : List Place) (trees : List Tree) (feet : List Foot) → ((a b : Place) → IsLive places a → IsLive places b → Differ a b → R a b) → IsLive places x
+    → AllStand places buffers ps trees feet → AllByRecursion (Differ (InPlace x)) feet → AllByRecursion (R x) ps
+each_live places buffers R x [] trees feet law here all differ = tt
+each_live places buffers R x (p ∷ ps) [] feet law here all differ = absurd all
+each_live places buffers R x (p ∷ ps) (tree ∷ trees) feet law here all differ =
+    let whole : AllByRecursion (Differ (InPlace x)) ((InPlace p ∷ all.3.behind) ++ all.1) = subst (AllByRecursion (Differ (InPlace x))) (all.2 ∙ ap (λ own. own ++ all.1) all.3.feet_are) differ in
+    (law x p here (record_live places buffers p tree all.0 all.3) (λ same. whole.0 (ap InPlace same)), each_live places buffers R x ps trees all.1 law here all.4 (all_behind (Differ (InPlace x)) all.3.behind all.1 whole.1))
+
+pub each_two_live : (places : Places) (buffers : Buffers) (R : Place → Place → Type 0) (ps : List Place) (trees : List Tree) (feet : List Foot) → ((a b : Place) → IsLive places a → IsLive places b → Differ a b → R a b)
+    → AllStand places buffers ps trees feet → EachTwo Differ feet → EachTwo R ps
+each_two_live places buffers R [] trees feet law all once = tt
+each_two_live places buffers R (p ∷ ps) [] feet law all once = absurd all
+each_two_live places buffers R (p ∷ ps) (tree ∷ trees) feet law all once =
+    let whole : EachTwo Differ ((InPlace p ∷ all.3.behind) ++ all.1) = subst (EachTwo Differ) (all.2 ∙ ap (λ own. own ++ all.1) all.3.feet_are) once in
+    (each_live places buffers R p ps trees all.1 law (record_live places buffers p tree all.0 all.3) all.4 (all_behind (Differ (InPlace p)) all.3.behind all.1 whole.0), each_two_live places buffers R ps trees all.1 law all.4 (each_behind Differ all.3.behind all.1 whole.1))

@@ -3,7 +3,7 @@ use Rattle.std.proofs.Common.{◌≡◌, ◌⊎◌, ◌^◌, ◌<◌, ◌≤◌,
 use Rattle.std.specs.Prelude.{All, IfOk, IfErr, IfSome, IsSomeAnd, IsErrOf}
 use Rattle.std.proofs.lemmas.Bool.{cond-true, cond-false, le-leb, lt-leb}
 use Rattle.pb_schema.specs.Frames.{Frames, frames_of}
-use Rattle.pb_schema.specs.Tick.Tree.{Tree}
+use Rattle.pb_schema.specs.Tree.{Tree}
 use Rattle.pb_schema.proofs.FrameLaws.{frames_found}
 use Rattle.pb_wire.specs.declared.frame_fault.FrameFault.{FrameFault}
 use Rattle.pb_wire.specs.FrameAnswers.{answer_from, answer_of}
@@ -78,8 +78,7 @@ payload_first content payloads (BadFrame index fault) cut few kind (inr is) = pa
 payload_first content payloads ReadFault cut few kind is = absurd kind
 payload_first content payloads WriteFault cut few kind is = absurd kind
 payload_first content payloads (TooLong which limit) cut few kind is = absurd kind
-payload_first content payloads NotBuilt cut few kind (inl is) = cc
-payload_first content payloads NotBuilt cut few kind (inr is) = payloads_first content payloads cut few ∙ is
+payload_first content payloads NotBuilt cut few kind is = absurd kind
 
 pub parsed_first : {A : Type 0} (r : Result A Fault) (found : Option (List ℕ)) (payloads : List (List ℕ)) → IfSome found (λ content. (length content ≤ 2 ^ 24) × (frames_of content ≡ Ok payloads)) → length payloads ≤ 2 ^ 20 → IfErr r IsOfPayloads
     → IfErr r (λ fault. (fault ≡ NoMemory) ⊎ (payloads_fault payloads ≡ Some fault)) → IfOk r (λ _. payloads_fault payloads ≡ None) → IfSome found (λ content. EndsBy (first_fault content) (result_fault r))
@@ -87,10 +86,6 @@ parsed_first (Ok x) None payloads cut few kind is sound = tt
 parsed_first (Ok x) (Some content) payloads cut few kind is sound = payloads_first content payloads (record { few_bytes = cut.0; frames = cut.1 }) few ∙ sound
 parsed_first (Err fault) None payloads cut few kind is sound = tt
 parsed_first (Err fault) (Some content) payloads cut few kind is sound = payload_first content payloads fault (record { few_bytes = cut.0; frames = cut.1 }) few kind is
-
-pub unbuilt_first : {A : Type 0} (r : Result A Fault) (found : Option (List ℕ)) → IsErrOf r NotBuilt → IfSome found (λ content. EndsBy (first_fault content) (result_fault r)) → IfSome found (λ content. first_fault content ≡ Some NotBuilt)
-unbuilt_first r None e h = tt
-unbuilt_first r (Some content) e h = subst (λ (x : Result _ Fault). EndsBy (first_fault content) (result_fault x)) e h
 
 pub parsed_trees : {A : Type 0} (r : Result A Fault) (found : Option (List ℕ)) (payloads : List (List ℕ)) (P : A → List Tree → Type 0) → IfSome found (λ content. (length content ≤ 2 ^ 24) × (frames_of content ≡ Ok payloads)) → length payloads ≤ 2 ^ 20
     → IfOk r (λ _. payloads_fault payloads ≡ None) → IfOk r (λ x. IsSomeAnd (each_tree payloads) (P x)) → IfOk r (λ x. IfSome found (λ content. HasTrees content (P x)))

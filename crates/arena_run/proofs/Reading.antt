@@ -1,13 +1,13 @@
 -- Reading at a place of the bytes.
 use Rattle.std.proofs.Common.{◌≡◌, ◌+◌, ◌-◌, ◌*◌, ◌%◌, ◌^◌, ◌<◌, ◌≤◌, ℕ, List, length, get_or, take, drop, Option, None, Some, refl, sym, ap, ◌∙◌, length-drop, add_assoc, min, ◌⊎◌, ⊎_elim, inl, inr, arith}
 use Rattle.std.proofs.lemmas.Bool.{cases_lt}
-use Rattle.std.specs.Prelude.{option_and_then}
-use Rattle.pb_schema.specs.Tick.Records.{record_at, value_at}
 use Rattle.std.specs.Option.{option_map}
+use Rattle.std.specs.Prelude.{IfSome}
 use Rattle.std.proofs.Math.Nat.{add-mod}
 use Rattle.std.proofs.lemmas.List.{get_or-drop, drop-drop}
 use Rattle.pb_schema.specs.Varint.{seven_bits, varint_at, tag_bytes, value_bytes}
 use Rattle.pb_schema.proofs.Steps.{ContinuedTo, continued_none, continued_more, continued_value, continued_cut, continued_long, seven_bits_more}
+use Rattle.arena_run.specs.Payload.{IsValueAt}
 use Rattle.arena_run.specs.Reading.{moved}
 
 -- what was found, counted from where it stands
@@ -89,18 +89,19 @@ read_cut bytes start most i value so_far past =
     let end : (length s ≤ i) ⊎ (most ≤ i) = ⊎_elim (λ less. inl (omega (arith, length-drop start bytes))) (λ more. inr more) (cases_lt i most) in
     moved_none (varint_at most s) start (⊎_elim (continued_cut most s i so_far.continued) (continued_long most s i so_far.continued) end)
 
--- a value behind a tag, counted from the tag
-moved_twice : (found : Option (ℕ × ℕ)) (start n : ℕ) → moved (start + n) found ≡ moved start (option_map (λ value. (value.0, n + value.1)) found)
-moved_twice None start n = refl
-moved_twice (Some p) start n = ap (λ k. Some (p.0, k)) (add_assoc start n p.1)
+-- a record of the field is read: its tag, and its value behind it
+value_found : (bytes : List ℕ) (start tag at value end : ℕ) → Some (tag, at) ≡ moved start (varint_at tag_bytes (drop start bytes)) → tag ≡ 8 → Some (value, end) ≡ moved at (varint_at value_bytes (drop at bytes)) → IsValueAt bytes start value end
+value_found bytes start tag at value end read is_tag is_value =
+    let front = found_from_moved (varint_at tag_bytes (drop start bytes)) start tag at read in
+    let behind = found_from_moved (varint_at value_bytes (drop at bytes)) at value end is_value in
+    record {
+      tag_len = front.bytes;
+      value_len = behind.bytes;
+      tag = front.is ∙ ap (λ t. Some (t, front.bytes)) is_tag;
+      value_there = ap (λ k. varint_at value_bytes (drop k bytes)) (sym front.end_is) ∙ behind.is;
+      end_is = behind.end_is ∙ ap (λ k. k + behind.bytes) front.end_is;
+    }
 
-pub value_read : (bytes : List ℕ) (start tag at : ℕ) (result : Option (ℕ × ℕ)) → Some (tag, at) ≡ moved start (varint_at tag_bytes (drop start bytes)) → tag ≡ 8 → result ≡ moved at (varint_at value_bytes (drop at bytes)) → result ≡ moved start (record_at 1 (drop start bytes))
-value_read bytes start tag at result read is_tag is_value =
-    let s = drop start bytes in
-    let found = found_from_moved (varint_at tag_bytes s) start tag at read in
-    let n = found.bytes in
-    let value = varint_at value_bytes (drop n s) in
-    let record_is : record_at 1 s ≡ option_map (λ v. (v.0, n + v.1)) value =
-    ap (option_and_then (λ t. value_at 1 t.0 t.1 s)) found.is ∙ ap (λ t. value_at 1 t n s) is_tag in
-    is_value ∙ ap (λ k. moved k (varint_at value_bytes (drop k bytes))) found.end_is ∙ ap (λ bs. moved (start + n) (varint_at value_bytes bs)) (sym (drop-drop n start bytes)) ∙ moved_twice value start n
-    ∙ sym (ap (moved start) record_is)
+pub value_read : (bytes : List ℕ) (start tag at : ℕ) (result : Option (ℕ × ℕ)) → Some (tag, at) ≡ moved start (varint_at tag_bytes (drop start bytes)) → tag ≡ 8 → result ≡ moved at (varint_at value_bytes (drop at bytes)) → IfSome result (λ found. IsValueAt bytes start found.0 found.1)
+value_read bytes start tag at None read is_tag is_value = tt
+value_read bytes start tag at (Some found) read is_tag is_value = value_found bytes start tag at found.0 found.1 read is_tag is_value

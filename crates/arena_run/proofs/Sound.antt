@@ -7,20 +7,15 @@ use Rattle.pb_schema.specs.declared.schema.MessageType.{MessageType}
 use Rattle.pb_schema.specs.declared.wire_fault.WireFault.{WireFault}
 use Rattle.pb_schema.specs.declared.wire_fault.WireKind.TheVariants.{GroupEnd}
 use Rattle.pb_schema.specs.Builtin.{builtin, tick_type}
-use Rattle.pb_schema.specs.Varint.{Varint, varint_at, tag_bytes, value_bytes}
-use Rattle.pb_schema.specs.Tick.Records.{VarintRecords, values_of}
-use Rattle.pb_schema.specs.Tick.Tree.{Tree, tick}
-use Rattle.pb_schema.specs.Tick.Decode.{last_or_zero, tree_of}
+use Rattle.pb_schema.specs.Varint.{varint_at, tag_bytes, value_bytes}
 use Rattle.pb_schema.specs.Fault.{fault_of}
-use Rattle.pb_schema.specs.Fits.{Contents, Anything, Numbers, contents_of, group_fields}
+use Rattle.pb_schema.specs.Fits.{Anything, contents_of, group_fields}
 use Rattle.pb_schema.specs.Form.{Form, form_at, read_payload}
 use Rattle.pb_schema.specs.Reads.{fault, fault_read, ◌>>=◌, read_map}
 use Rattle.pb_schema.specs.Walk.{Stop, Deeper, closed, read_contents, read_held, ends, walk, deeper_left, record_left}
 use Rattle.pb_schema.proofs.FormLaws.{TagParts, form_of_parts, read_varint_some}
-use Rattle.pb_schema.proofs.FrameLaws.{drop_two}
-use Rattle.pb_schema.proofs.RecordLaws.{values_found}
-use Rattle.pb_schema.proofs.Steps.{option_map_some, varint_at_within}
-use Rattle.pb_schema.proofs.VarintLaws.{varint_at_front}
+use Rattle.pb_schema.proofs.Steps.{varint_at_within}
+use Rattle.pb_schema.proofs.TickText.{tick_asks_nothing}
 use Rattle.pb_schema.proofs.WalkSteps.{walk-skip, walk_left_is}
 use Rattle.pb_wire.specs.declared.wire_record.WireRecord.{WireRecord}
 use Rattle.pb_wire.specs.PlacedRecord.{placed}
@@ -92,22 +87,6 @@ deeper_same types (suc left) tag group at s =
     walk_left_is types left tag [] group at s
     ∙ (walk_same types [] (deeper_left types left) (deeper_left [] left) [] group at 0 s (λ number wire. refl) (deeper_same types left) ∙ sym (walk_left_is [] left tag [] group at s))
 
--- the one field of `pb.Tick` asks nothing of a payload
-either_is : (b : Bool) (asked : Contents) → asked ≡ Anything → cond b asked Anything ≡ Anything
-either_is true asked e = e
-either_is false asked e = refl
-
-packed_is_none : (b : Bool) → cond (b && false) (Numbers 0) Anything ≡ Anything
-packed_is_none true = refl
-packed_is_none false = refl
-
-tick_asks_nothing : AskNothing tick_type.fields
-tick_asks_nothing number wire =
-    ⊎_elim
-    (λ (two : wire ≡ 2). subst (λ w. contents_of tick_type.fields number w ≡ Anything) (sym two) (packed_is_none (eqb 1 number)))
-    (λ other. either_is _ _ (ap (λ c. cond c (Numbers 0) Anything) (ne_eqb wire 2 other)))
-    (cases_eq wire 2)
-
 -- RECORDS FROM A PLACE ON
 
 -- the records of a payload from a place on, read as those of any message
@@ -157,35 +136,13 @@ pub walk_end : (bytes : List ℕ) (at : ℕ) → length bytes ≤ at → fault_r
 unfolding plain_walk
 walk_end bytes at past = at_drop_all (λ s. fault_read (walk [] (deeper_left [] 100) [] None at 0 s)) bytes at past
 
--- PLAIN PAYLOADS
+-- A RECORD OF THE FIELD
 
--- a record of field 1 with wire type 0
-plain_record : (at : ℕ) (s tag value rest : List ℕ) (v : ℕ) → s ≡ tag ++ (value ++ rest) → Varint tag tag_bytes 8 → Varint value value_bytes v
-    → plain_walk at s ≡ plain_walk (at + (length tag + 0 + length value)) rest
-plain_record at s tag value rest v e is_tag is_value =
-    let n = length tag in
-    let m = length value in
-    let tag_found : varint_at tag_bytes s ≡ Some (8, n) = ap (varint_at tag_bytes) e ∙ varint_at_front tag_bytes tag (value ++ rest) 8 is_tag in
-    let behind : drop n s ≡ value ++ rest = ap (drop n) e ∙ drop_at tag (value ++ rest) n refl in
-    let value_found : varint_at value_bytes (drop n s) ≡ Some (v, m) = ap (varint_at value_bytes) behind ∙ varint_at_front value_bytes value rest v is_value in
+-- its form, where its tag and its value are found
+pub value_form : (at : ℕ) (s : List ℕ) (n v m : ℕ) → varint_at tag_bytes s ≡ Some (8, n) → varint_at value_bytes (drop n s) ≡ Some (v, m)
+    → record_left [] 100 [] at s ≡ Ok (record { number = 1; wire = 0; payload = n + 0; payload_len = m; size = n + 0 + m })
+value_form at s n v m tag_found value_found =
     let tag_size = varint_at_within tag_bytes s 8 n tag_found in
-    let value_size = varint_at_within value_bytes (drop n s) v m value_found in
     let parts : TagParts s 1 0 n = record { varint = tag_found; below = omega arith; least = omega arith; wire_type = omega arith; some = tag_size.0; within = tag_size.2 } in
     let payload : read_payload 0 (at + n) (drop n s) ≡ Ok (0, m) = ap (λ r. (r >>= λ found. Ok found.1) >>= λ size. Ok (0, size)) (read_varint_some value_bytes (at + n) (drop n s) v m value_found) in
-    let form = form_of_parts at s 1 0 n 0 m parts payload in
-    let whole : Form = record { number = 1; wire = 0; payload = n + 0; payload_len = m; size = n + 0 + m } in
-    let found : record_left [] 100 [] at s ≡ Ok whole = ap (λ r. r >>= λ f. read_held [] (deeper_left [] 100) [] at s f) form in
-    let same : n + 0 + m ≡ n + m = omega arith in
-    let end : drop (n + 0 + m) s ≡ rest = ap (λ k. drop k s) same ∙ (ap (drop (n + m)) e ∙ drop_two tag value rest) in
-    walk_behind at s whole found (omega (arith, tag_size.0)) (omega (arith, tag_size.2, value_size.2, length-drop n s)) ∙ ap (plain_walk (at + (n + 0 + m))) end
-
-records_sound : (vs s : List ℕ) (at : ℕ) → VarintRecords 1 s vs → fault_read (plain_walk at s) ≡ None
-unfolding plain_walk
-records_sound [] s at e = ap (λ t. fault_read (walk [] (deeper_left [] 100) [] None at 0 t)) e
-records_sound (v ∷ vs) s at p = ap fault_read (plain_record at s p.0 p.1 p.2 v p.3 p.4 p.5) ∙ records_sound vs p.2 (at + (length p.0 + 0 + length p.1)) p.6
-
--- a plain payload has no fault
-pub plain_sound : (s : List ℕ) (t : Tree) → tree_of s ≡ Some t → fault_of builtin 0 0 s ≡ None
-plain_sound s t e =
-    option_map_some (λ vs. tick (last_or_zero vs)) (values_of 1 s) t e
-    λ vs was is. fault_is s ∙ records_sound vs s 0 (values_found 1 vs s was)
+    ap (λ r. r >>= λ f. read_held [] (deeper_left [] 100) [] at s f) (form_of_parts at s 1 0 n 0 m parts payload)

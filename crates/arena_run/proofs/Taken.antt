@@ -9,7 +9,7 @@ suc_add : (a b : ℕ) → suc a + b ≡ suc (a + b)
 suc_add a b = omega arith
 
 -- two pieces of a list, one behind the other
-take_two : (a b : ℕ) (xs : List ℕ) → take a xs ++ take b (drop a xs) ≡ take (a + b) xs
+pub take_two : (a b : ℕ) (xs : List ℕ) → take a xs ++ take b (drop a xs) ≡ take (a + b) xs
 take_two a b xs =
     ap (λ ys. ys ++ take b (drop a xs)) (sym (take-take a (a + b) xs (omega arith))) ∙ ap (λ ys. take a (take (a + b) xs) ++ ys) (sym (drop-take a b xs)) ∙ take-append-drop a (take (a + b) xs)
 

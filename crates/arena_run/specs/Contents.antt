@@ -2,7 +2,7 @@
 use Rattle.std.specs.Prelude.{◌≡◌, ℕ, List, Option, None, Some, IsSome, IfSome, IsSomeAnd, option_and_then, ⊤}
 use Rattle.std.specs.FinMap as map
 use Rattle.arena_mem.specs.Outside.{NamedFiles}
-use Rattle.pb_schema.specs.Tick.Tree.{Tree}
+use Rattle.pb_schema.specs.Tree.{Tree}
 use Rattle.arena_run.specs.Words.{IsCat}
 use Rattle.arena_run.specs.Faults.{first_fault, trees_of}
 

@@ -52,7 +52,7 @@ IsUnplaced (Some (BadFrame index fault)) = ⊥
 IsUnplaced (Some ReadFault) = ⊤
 IsUnplaced (Some WriteFault) = ⊥
 IsUnplaced (Some (TooLong which limit)) = ⊤
-IsUnplaced (Some NotBuilt) = ⊥
+IsUnplaced (Some NotBuilt) = ⊤
 
 -- the run ended well, or in want of memory
 abbrev pub EndsWell : Option Fault → Type 0
@@ -76,7 +76,7 @@ IsRead (Some (BadFrame index fault)) = ⊤
 IsRead (Some ReadFault) = ⊥
 IsRead (Some WriteFault) = ⊤
 IsRead (Some (TooLong which limit)) = ⊤
-IsRead (Some NotBuilt) = ⊤
+IsRead (Some NotBuilt) = ⊥
 
 -- a run over a file whose content has this first fault, or none: want of memory and a fault of reading may come before it, a fault of writing where there is none
 abbrev pub EndsBy : Option Fault → Option Fault → Type 0
@@ -88,7 +88,7 @@ EndsBy first (Some (BadFrame index fault)) = first ≡ Some (BadFrame index faul
 EndsBy first (Some ReadFault) = ⊤
 EndsBy first (Some WriteFault) = first ≡ None
 EndsBy first (Some (TooLong which limit)) = first ≡ Some (TooLong which limit)
-EndsBy first (Some NotBuilt) = first ≡ Some NotBuilt
+EndsBy first (Some NotBuilt) = ⊥
 
 -- a fault that comes of reading the frames file, before its payloads are looked at
 abbrev pub IsOfFile : Fault → Type 0
@@ -115,4 +115,4 @@ IsOfPayloads (BadFrame index fault) = ⊤
 IsOfPayloads ReadFault = ⊥
 IsOfPayloads WriteFault = ⊥
 IsOfPayloads (TooLong which limit) = ⊥
-IsOfPayloads NotBuilt = ⊤
+IsOfPayloads NotBuilt = ⊥

@@ -4,11 +4,11 @@ use Rattle.std.specs.Option.{option_map}
 use Rattle.pb_schema.specs.Builtin.{builtin}
 use Rattle.pb_schema.specs.Fault.{fault_of}
 use Rattle.pb_schema.specs.Frames.{frames_of}
-use Rattle.pb_schema.specs.Tick.Tree.{Tree}
-use Rattle.pb_schema.specs.Tick.Decode.{tree_of}
+use Rattle.pb_schema.specs.Tree.{Tree}
+use Rattle.pb_schema.specs.TreeOf.{tree_of}
 use Rattle.arena_run.specs.declared.fault.InputKind.TheVariants.{FrameBytes, FrameCount}
 use Rattle.arena_run.specs.declared.fault.Fault.{Fault}
-use Rattle.arena_run.specs.declared.fault.Fault.TheVariants.{FrameCut, BadFrame, TooLong, NotBuilt}
+use Rattle.arena_run.specs.declared.fault.Fault.TheVariants.{FrameCut, BadFrame, TooLong}
 
 abbrev pub frame_bytes_limit : ℕ
 frame_bytes_limit = 2 ^ 24
@@ -19,21 +19,16 @@ frame_count_limit = 2 ^ 20
 -- the tree of each payload, where each of them has one
 abbrev pub each_tree : List (List ℕ) → Option (List Tree)
 each_tree [] = Some []
-each_tree (payload ∷ payloads) = option_and_then (λ tree. option_map (λ trees. tree ∷ trees) (each_tree payloads)) (tree_of payload)
+each_tree (payload ∷ payloads) = option_and_then (λ tree. option_map (λ trees. tree ∷ trees) (each_tree payloads)) (tree_of builtin 0 payload)
 
 -- the first payload with a fault, with its first, where the payloads begin at this index
 abbrev pub bad_frame : ℕ → List (List ℕ) → Option Fault
 bad_frame index [] = None
 bad_frame index (payload ∷ payloads) = elim (fault_of builtin 0 0 payload) [ Some fault ↦ Some (BadFrame index fault) | None ↦ bad_frame (suc index) payloads ]
 
--- payloads that are built so far: each of them has a tree
-abbrev pub unbuilt : Option (List Tree) → Option Fault
-unbuilt (Some trees) = None
-unbuilt None = Some NotBuilt
-
--- a payload with a fault stands before what isn't built
+-- the first payload with a fault, with its first
 abbrev pub payloads_fault : List (List ℕ) → Option Fault
-payloads_fault payloads = elim (bad_frame 0 payloads) [ Some fault ↦ Some fault | None ↦ unbuilt (each_tree payloads) ]
+payloads_fault payloads = bad_frame 0 payloads
 
 -- the frames, or where they are cut: no more frames than the limit are looked at, and bytes behind as many are too many
 abbrev pub frames_fault : Result (List (List ℕ)) ℕ → Option Fault

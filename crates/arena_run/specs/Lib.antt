@@ -1,7 +1,9 @@
 pub mod Words
 pub mod Faults
 pub mod Contents
+pub mod Payload
 pub mod Stands
+pub mod Placed
 pub mod Written
 pub mod Reading
 pub mod Ends

@@ -29,7 +29,7 @@ pub enum Fault {
     WriteFault,
     /// There is more of an input than this. Status 8.
     TooLong { which: InputKind, limit: u32 },
-    /// The words or the frames file ask for what isn't built yet. Status 9.
+    /// The words are those of a command that isn't built yet. Status 9.
     NotBuilt,
 }
 

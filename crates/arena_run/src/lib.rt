@@ -5,13 +5,19 @@
 //! that is handed back; and every status but that of want of memory says when it comes.
 #![tactic(auto)]
 
+mod contents;
 mod fault;
 mod input;
 mod parse;
 mod payload;
+mod placed;
 mod program;
+mod slot;
+mod strings;
 #[cfg(test)]
 mod tests;
+#[cfg(test)]
+mod tests_storage;
 mod tick;
 mod wire;
 mod words;

@@ -1,16 +1,21 @@
 // Parsing the frames of a file into messages.
-ghost use Rattle.std.specs.Prelude.{◌≡◌, ◌⊎◌, ◌+◌, ◌^◌, ◌<◌, ◌≤◌, ℕ, [], None, Some, All, length, drop, IfOk, IfErr, IsSomeAnd};
+ghost use Rattle.std.specs.Prelude.{◌≡◌, ◌⊎◌, ◌+◌, ◌-◌, ◌*◌, ◌^◌, ◌<◌, ◌≤◌, ℕ, List, [], None, Some, All, length, take, IfOk, IfErr, IsSomeAnd};
 ghost use Rattle.std.specs.FinMap as finite;
-ghost use Rattle.arena_mem.specs.Places.{KeepsRest};
+ghost use Rattle.arena_mem.specs.Places.{KeepsRest, KeepsBuffers};
+ghost use Rattle.pb_schema.specs.Builtin.{builtin};
+ghost use Rattle.pb_schema.specs.Records.{Record, Records};
+ghost use Rattle.pb_schema.specs.TreeOf.{tree_of};
 ghost use Rattle.arena_run.specs.Ends.{IsOfPayloads};
-ghost use Rattle.arena_run.specs.Faults.{each_tree, bad_frame, payloads_fault};
-ghost use Rattle.arena_run.specs.Stands.{AllStand, EachTwo, Differ};
+ghost use Rattle.arena_run.specs.Faults.{each_tree, payloads_fault};
+ghost use Rattle.arena_run.specs.Payload.{IsFaultOf};
+ghost use Rattle.arena_run.specs.Stands.{StandApart, IsMadeAnew, GrowsLittle, how_many, tick};
 
+use crate::contents::{Contents, PayloadFault};
 use crate::fault::Fault;
-use crate::payload::fault_in;
+use crate::payload::parse_payload;
 use crate::tick;
 use crate::wire::read_value;
-use arena_mem::{Memory, Place};
+use arena_mem::{Memory, NoMemory, Place};
 use pb_wire::Frames;
 use std::alloc::Global;
 
@@ -23,26 +28,24 @@ pub fn parse_frames<M: Memory>(
     requires blocks { (region : ℕ) → M.blocks mem.old region ≡ 0 }
     requires few { length frames.now ≤ 2 ^ 20 }
     requires short { All (λ payload. length payload < 2 ^ 31) frames.now }
-    ensures stand { IfOk result (λ messages. IsSomeAnd (each_tree frames.now) (AllStand (M.places mem.new) messages.items)) }
-    ensures differ { IfOk result (λ messages. EachTwo Differ messages.items) }
+    ensures stand { IfOk result (λ messages. IsSomeAnd (each_tree frames.now) (StandApart (how_many (M.places mem.old) (M.buffers mem.old)) (M.places mem.new) (M.buffers mem.new) messages.items)) }
     ensures sound { IfOk result (λ _. payloads_fault frames.now ≡ None) }
     ensures kind { IfErr result IsOfPayloads }
     ensures fault { IfErr result (λ fault. (fault ≡ Fault.NoMemory) ⊎ (payloads_fault frames.now ≡ Some fault)) }
-    ensures few { finite.len (M.places mem.new) ≤ finite.len (M.places mem.old) + 2 ^ 20 }
-    ensures counted { IfOk result (λ messages. finite.len (M.places mem.new) ≡ finite.len (M.places mem.old) + length messages.items) }
+    ensures few { finite.len (M.places mem.new) ≤ finite.len (M.places mem.old) + 3 * 2 ^ 20 }
+    ensures few_buffers { finite.len (M.buffers mem.new) ≤ finite.len (M.buffers mem.old) + 2 ^ 20 }
     ensures key { M.key mem.new ≡ M.key mem.old }
     ensures rest { KeepsRest (M.places mem.old) (M.places mem.new) }
-    ensures buffers { M.buffers mem.new ≡ M.buffers mem.old }
+    ensures buffers { KeepsBuffers (M.buffers mem.old) (M.buffers mem.new) }
 {
     let count = frames.count();
     let mut messages = room_for_messages(alloc, count)?;
     for index in 0..count {
         let (bytes, len) = frames.payload_and_behind(index);
-        let Some(value) = read_value(bytes, len) else {
-            return Err(refusal(frames, index));
-        };
-        let Ok(message) = tick::create(mem, value) else {
-            return Err(Fault::NoMemory);
+        let message = match parse_frame(alloc, mem, bytes, len) {
+            Ok(message) => message,
+            Err(PayloadFault::NoMemory) => return Err(Fault::NoMemory),
+            Err(PayloadFault::Bad(fault)) => return Err(Fault::BadFrame { index, fault }),
         };
         if messages.push(message).is_err() {
             return Err(Fault::NoMemory);
@@ -51,20 +54,57 @@ pub fn parse_frames<M: Memory>(
     Ok(messages)
 }
 
-// Why frames aren't parsed, of which those before the first here have no fault, and that one isn't plain.
-fn refusal(frames: &Frames, first: u32) -> Fault
-    requires short { All (λ payload. length payload < 2 ^ 31) frames.now }
-    requires sound { bad_frame first (drop first frames.now) ≡ bad_frame 0 frames.now }
-    requires not_plain { each_tree frames.now ≡ None }
-    ensures kind { IsOfPayloads result }
-    ensures fault { payloads_fault frames.now ≡ Some result }
+// Parses one payload, the first `len` of the bytes, into a message. Most are plain, and are read once; the others are
+// read by their records.
+#[inline]
+fn parse_frame<M: Memory>(
+    alloc: Global,
+    mem: &mut M,
+    bytes: &[u8],
+    len: usize,
+) -> Result<Place, PayloadFault>
+    requires blocks { (region : ℕ) → M.blocks mem.old region < 2 ^ 32 - 4 }
+    requires len { len ≤ length bytes.now }
+    requires short { len < 2 ^ 31 }
+    ensures made { IfOk result (λ p. IsSomeAnd (tree_of builtin 0 (take len bytes.now)) (IsMadeAnew (M.places mem.old) (M.buffers mem.old) (M.places mem.new) (M.buffers mem.new) p)) }
+    ensures fault { IfErr result (IsFaultOf (take len bytes.now)) }
+    ensures few { finite.len (M.places mem.new) ≤ finite.len (M.places mem.old) + 3 }
+    ensures few_buffers { finite.len (M.buffers mem.new) ≤ finite.len (M.buffers mem.old) + 1 }
+    ensures key { M.key mem.new ≡ M.key mem.old }
+    ensures rest { KeepsRest (M.places mem.old) (M.places mem.new) }
+    ensures buffers { KeepsBuffers (M.buffers mem.old) (M.buffers mem.new) }
+    ensures block_counts { (region : ℕ) → M.blocks mem.new region ≤ M.blocks mem.old region + 3 }
 {
-    for index in first..frames.count() {
-        if let Some(fault) = fault_in(frames.payload(index)) {
-            return Fault::BadFrame { index, fault };
-        }
+    let made = match read_value(bytes, len) {
+        Some(value) => tick::create(mem, value),
+        None => match parse_payload(alloc, &bytes[..len]) {
+            Ok(contents) => create_message(mem, contents),
+            Err(fault) => return Err(fault),
+        },
+    };
+    match made {
+        Ok(message) => Ok(message),
+        Err(NoMemory) => Err(PayloadFault::NoMemory),
     }
-    Fault::NotBuilt
+}
+
+// Makes the message of a payload that was parsed.
+fn create_message<M: Memory>(mem: &mut M, contents: Contents) -> Result<Place, NoMemory>
+    requires blocks { (region : ℕ) → M.blocks mem.old region < 2 ^ 32 - 4 }
+    requires short { length contents.unknown.items < 2 ^ 31 }
+    requires whole { (rs : List Record) × Records contents.unknown.items rs }
+    ensures made { IfOk result (λ p. IsMadeAnew (M.places mem.old) (M.buffers mem.old) (M.places mem.new) (M.buffers mem.new) p (tick contents.value contents.unknown.items)) }
+    ensures few { GrowsLittle (M.places mem.old) (M.buffers mem.old) (M.places mem.new) (M.buffers mem.new) }
+    ensures key { M.key mem.new ≡ M.key mem.old }
+    ensures rest { KeepsRest (M.places mem.old) (M.places mem.new) }
+    ensures buffers { KeepsBuffers (M.buffers mem.old) (M.buffers mem.new) }
+    ensures block_counts { (region : ℕ) → M.blocks mem.new region ≤ M.blocks mem.old region + 3 }
+{
+    if contents.unknown.is_empty() {
+        tick::create(mem, contents.value)
+    } else {
+        tick::create_with_unknown(mem, contents.value, contents.unknown)
+    }
 }
 
 // Room for so many messages, so that it never grows.

@@ -1,18 +1,19 @@
 // The top call, and the outcome of a run.
-ghost use Rattle.std.specs.Prelude.{◌≡◌, ◌↔◌, ◌⊎◌, ◌+◌, ◌^◌, ◌≤◌, ℕ, List, [], None, Some, Err, length, map, IfOk, IfErr, IfNone, IsSome, IsErrOf};
+ghost use Rattle.std.specs.Prelude.{◌≡◌, ◌↔◌, ◌+◌, ◌*◌, ◌^◌, ◌≤◌, ℕ, List, [], None, Some, Err, map, IfOk, IfNone, IsErrOf};
 ghost use Rattle.std.specs.FinMap as finite;
 ghost use Rattle.std.specs.String.{string_bytes};
 ghost use Rattle.std.specs.Io.KnownBytes.{Appends, Keeps};
-ghost use Rattle.arena_mem.specs.Places.{KeepsRest, Apart};
+ghost use Rattle.arena_mem.specs.declared.place.Place.{Place};
+ghost use Rattle.arena_mem.specs.Places.{Apart, IsLive};
 ghost use Rattle.arena_mem.specs.Outside.{Rose};
 ghost use Rattle.serial_arena.specs.Serial.{places_of, buffers_of, IsUnused};
 ghost use Rattle.serial_arena.specs.Key.{key_of};
-ghost use Rattle.pb_schema.specs.Tick.Tree.{Tree};
+ghost use Rattle.pb_schema.specs.Tree.{Tree};
 ghost use Rattle.arena_run.specs.Words.{IsCat, HasNoForm, IsOtherCommand, IsUnbuilt};
-ghost use Rattle.arena_run.specs.Contents.{content_of, OfContent, OfTrees, IsThere};
+ghost use Rattle.arena_run.specs.Contents.{content_of, OfTrees, IsThere};
 ghost use Rattle.arena_run.specs.Ends.{status_of, IsParsed, IsUnparsed, IsUnplaced, IsRead, EndsWell, EndsBy, result_fault};
 ghost use Rattle.arena_run.specs.Faults.{first_fault};
-ghost use Rattle.arena_run.specs.Stands.{AllStand, EachTwo, Differ};
+ghost use Rattle.arena_run.specs.Stands.{StandApart, how_many};
 ghost use Rattle.arena_run.specs.Written.{output_of, TookPart};
 
 use crate::fault::Fault;
@@ -37,13 +38,12 @@ pub struct Outcome {
 ///
 /// The words have one of three forms: `cat SET TYPE FRAMES WORKERS`, `run SET TYPE FRAMES SCRIPT WORKERS` and
 /// `gen SEED COUNT WORKERS`; all others are a `Usage`. So far one command is built: `cat builtin pb.Tick FRAMES 1` parses
-/// each frame of the file into the arena, in order, and writes each message behind its prefix. The other commands are
-/// refused as `NotBuilt`. FRAMES may be any name; a file that can't be read is a `ReadFault`, one of more than 2^24 bytes
-/// or 2^20 frames a `TooLong`, one whose frames are cut a `FrameCut`, and one in which a payload has a fault a `BadFrame`.
-/// A file without a fault is still `NotBuilt` where a payload isn't plain, which is whole records of field 1 with wire
-/// type 0. What is said of a file's content or of the bytes that were
-/// taken holds where the files and the sink tell them. It asks for an arena in which nothing was placed and nothing is
-/// kept.
+/// each frame of the file into the arena, in order, and writes each message behind its prefix: its field, where that isn't
+/// the default, and then the bytes of all records that don't fit the field, groups among them, as they stood. The other
+/// commands are refused as `NotBuilt`. FRAMES may be any name; a file that can't be read is a `ReadFault`, one of more
+/// than 2^24 bytes or 2^20 frames a `TooLong`, one whose frames are cut a `FrameCut`, and one in which a payload has a
+/// fault a `BadFrame`. What is said of a file's content or of the bytes that were taken holds where the files and the sink
+/// tell them. It asks for an arena in which nothing was placed and nothing is kept.
 pub fn run<F: Files, O: Sink>(
     alloc: Global,
     words: &[String],
@@ -61,22 +61,21 @@ pub fn run<F: Files, O: Sink>(
     ensures prefix { result.fault ≡ Some Fault.WriteFault → OfTrees (map string_bytes words.now) (F.contents files.old) (λ trees. TookPart (O.taken out.old) (O.taken out.new) (output_of trees)) }
     ensures nothing_written { IsUnparsed result.fault → out.new ≡ out.old }
 
-    // In both of these each register stands for the tree of its frame in the arena that is handed back, no two
-    // registers share a byte, and nothing else was placed. On every other fault there are none.
-    ensures registers { IsParsed result.fault → OfTrees (map string_bytes words.now) (F.contents files.old) (AllStand (places_of result.arena) result.registers.items) }
-    ensures apart { EachTwo Apart result.registers.items }
-    ensures only { IsParsed result.fault → finite.len (places_of result.arena) ≡ length result.registers.items }
+    // In both of these each register stands for the tree of its frame in the arena that is handed back. What they stand
+    // on is each place and buffer of the arena, once, and no two places share a byte. On every other fault there are no
+    // registers.
+    ensures registers { IsParsed result.fault → OfTrees (map string_bytes words.now) (F.contents files.old) (StandApart 0 (places_of result.arena) (buffers_of result.arena) result.registers.items) }
+    ensures apart { (p q : Place) → IsLive (places_of result.arena) p → IsLive (places_of result.arena) q → (p ≡ q → ⊥) → Apart p q }
     ensures no_registers { IsUnparsed result.fault → result.registers.items ≡ [] }
 
     // Whatever the files tell, the registers stand for trees, and what the sink took is the text of these.
-    ensures stand { (trees : List Tree) × AllStand (places_of result.arena) result.registers.items trees }
-    ensures wrote { (trees : List Tree) → AllStand (places_of result.arena) result.registers.items trees → IfNone result.fault (Appends (O.taken out.old) (O.taken out.new) (output_of trees)) }
-    ensures wrote_part { (trees : List Tree) → AllStand (places_of result.arena) result.registers.items trees → result.fault ≡ Some Fault.WriteFault → TookPart (O.taken out.old) (O.taken out.new) (output_of trees) }
+    ensures stand { IsParsed result.fault → (trees : List Tree) × StandApart 0 (places_of result.arena) (buffers_of result.arena) result.registers.items trees }
+    ensures wrote { (trees : List Tree) → StandApart 0 (places_of result.arena) (buffers_of result.arena) result.registers.items trees → IfNone result.fault (Appends (O.taken out.old) (O.taken out.new) (output_of trees)) }
+    ensures wrote_part { (trees : List Tree) → StandApart 0 (places_of result.arena) (buffers_of result.arena) result.registers.items trees → result.fault ≡ Some Fault.WriteFault → TookPart (O.taken out.old) (O.taken out.new) (output_of trees) }
 
     // `Usage` and `NotBuilt` come by the words, before anything is picked, read or placed.
     ensures usage { (result.fault ≡ Some Fault.Usage) ↔ HasNoForm (map string_bytes words.now) }
-    ensures unbuilt { IsUnbuilt (map string_bytes words.now) → result.fault ≡ Some Fault.NotBuilt }
-    ensures not_built { result.fault ≡ Some Fault.NotBuilt → IsUnbuilt (map string_bytes words.now) ⊎ OfContent (map string_bytes words.now) (F.contents files.old) (λ content. first_fault content ≡ Some Fault.NotBuilt) }
+    ensures not_built { (result.fault ≡ Some Fault.NotBuilt) ↔ IsUnbuilt (map string_bytes words.now) }
     ensures untouched { IsOtherCommand (map string_bytes words.now) → files.new ≡ files.old }
 
     // The other faults of the input come exactly where they are the first of the frames file. It yields to want of memory
@@ -98,11 +97,12 @@ pub fn run<F: Files, O: Sink>(
     ensures complete { (frames content : List ℕ) → IsCat (map string_bytes words.now) frames → content_of (F.contents files.old) frames ≡ Some content → first_fault content ≡ None
         → (Rose (F.faults files.old) (F.faults files.new) → ⊥) → (Rose (O.faults out.old) (O.faults out.new) → ⊥) → EndsWell result.fault }
 
-    // The arena keeps its owner, life and region, and keeps nothing outside its blocks. It is untouched where no payload
-    // was parsed, and has a place for each frame at the most on whatever fault.
-    ensures few { finite.len (places_of result.arena) ≤ 2 ^ 20 }
+    // The arena keeps its owner, life and region. It is as it was handed in where the words aren't run, and where the file
+    // isn't read or is cut. On whatever fault it has at most three places and a kept buffer for each of the 2^20 frames
+    // that a file may have.
+    ensures few { finite.len (places_of result.arena) ≤ 3 * 2 ^ 20 }
+    ensures few_buffers { finite.len (buffers_of result.arena) ≤ 2 ^ 20 }
     ensures key { key_of result.arena ≡ key_of arena }
-    ensures buffers { buffers_of result.arena ≡ buffers_of arena }
     ensures unplaced { IsUnplaced result.fault → result.arena ≡ arena }
     ensures not_run { IsOtherCommand (map string_bytes words.now) → result.arena ≡ arena }
 {
@@ -135,21 +135,20 @@ fn read_messages<F: Files, M: Memory>(
     mem: &mut M,
 ) -> Result<Vec<Place>, Fault>
     requires { (region : ℕ) → M.blocks mem.old region ≡ 0 }
-    ensures few { finite.len (M.places mem.new) ≤ finite.len (M.places mem.old) + 2 ^ 20 }
+    ensures few { finite.len (M.places mem.new) ≤ finite.len (M.places mem.old) + 3 * 2 ^ 20 }
+    ensures few_buffers { finite.len (M.buffers mem.new) ≤ finite.len (M.buffers mem.old) + 2 ^ 20 }
     ensures contents { F.contents files.new ≡ F.contents files.old }
     ensures counts { F.faults files.old ≤ F.faults files.new }
     ensures there { (frames : List ℕ) → IsCat (map string_bytes words.now) frames → IsRead (result_fault result) → IsThere (F.contents files.old) frames }
     ensures unblamed { (IsErrOf result Fault.ReadFault → ⊥) → F.blamed files.new ≡ F.blamed files.old }
     ensures untouched { IsOtherCommand (map string_bytes words.now) → files.new ≡ files.old }
     ensures command { IfOk result (λ _. (frames : List ℕ) × IsCat (map string_bytes words.now) frames) }
-    ensures stand { IfOk result (λ messages. OfTrees (map string_bytes words.now) (F.contents files.old) (AllStand (M.places mem.new) messages.items)) }
-    ensures stands { IfOk result (λ messages. (trees : List Tree) × AllStand (M.places mem.new) messages.items trees) }
-    ensures counted { IfOk result (λ messages. finite.len (M.places mem.new) ≡ finite.len (M.places mem.old) + length messages.items) }
-    ensures differ { IfOk result (λ messages. EachTwo Differ messages.items) }
+    ensures stand { IfOk result (λ messages. OfTrees (map string_bytes words.now) (F.contents files.old) (StandApart (how_many (M.places mem.old) (M.buffers mem.old)) (M.places mem.new) (M.buffers mem.new) messages.items)) }
+    ensures stands { IfOk result (λ messages. (trees : List Tree) × StandApart (how_many (M.places mem.old) (M.buffers mem.old)) (M.places mem.new) (M.buffers mem.new) messages.items trees) }
     ensures usage { IsErrOf result Fault.Usage → HasNoForm (map string_bytes words.now) }
     ensures no_form { HasNoForm (map string_bytes words.now) → result ≡ Err Fault.Usage }
     ensures unbuilt { IsUnbuilt (map string_bytes words.now) → result ≡ Err Fault.NotBuilt }
-    ensures not_built { IsErrOf result Fault.NotBuilt → IsUnbuilt (map string_bytes words.now) ⊎ OfContent (map string_bytes words.now) (F.contents files.old) (λ content. first_fault content ≡ Some Fault.NotBuilt) }
+    ensures not_built { IsErrOf result Fault.NotBuilt → IsUnbuilt (map string_bytes words.now) }
     ensures exact { (frames content : List ℕ) → IsCat (map string_bytes words.now) frames → content_of (F.contents files.old) frames ≡ Some content → EndsBy (first_fault content) (result_fault result) }
     ensures read_fault { IsErrOf result Fault.ReadFault → Rose (F.faults files.old) (F.faults files.new) }
     ensures blamed { IsErrOf result Fault.ReadFault → (frames : List ℕ) × IsCat (map string_bytes words.now) frames × (F.blamed files.new ≡ Some frames) }
@@ -157,8 +156,6 @@ fn read_messages<F: Files, M: Memory>(
     ensures unplaced { IsUnplaced (result_fault result) → mem.new ≡ mem.old }
     ensures not_run { IsOtherCommand (map string_bytes words.now) → mem.new ≡ mem.old }
     ensures key { M.key mem.new ≡ M.key mem.old }
-    ensures rest { KeepsRest (M.places mem.old) (M.places mem.new) }
-    ensures buffers { M.buffers mem.new ≡ M.buffers mem.old }
 {
     if !has_form(words) {
         return Err(Fault::Usage);
@@ -185,28 +182,27 @@ fn cat<F: Files, O: Sink, M: Memory>(
     mem: &mut M,
 ) -> (Option<Fault>, Vec<Place>)
     requires { (region : ℕ) → M.blocks mem.old region ≡ 0 }
-    ensures few { finite.len (M.places mem.new) ≤ finite.len (M.places mem.old) + 2 ^ 20 }
+    ensures few { finite.len (M.places mem.new) ≤ finite.len (M.places mem.old) + 3 * 2 ^ 20 }
+    ensures few_buffers { finite.len (M.buffers mem.new) ≤ finite.len (M.buffers mem.old) + 2 ^ 20 }
     ensures contents { F.contents files.new ≡ F.contents files.old }
     ensures counts { F.faults files.old ≤ F.faults files.new }
     ensures sink_counts { O.faults out.old ≤ O.faults out.new }
     ensures there { (frames : List ℕ) → IsCat (map string_bytes words.now) frames → IsRead result.0 → IsThere (F.contents files.old) frames }
     ensures unblamed { (result.0 ≡ Some Fault.ReadFault → ⊥) → F.blamed files.new ≡ F.blamed files.old }
     ensures untouched { IsOtherCommand (map string_bytes words.now) → files.new ≡ files.old }
-    ensures wrote { (trees : List Tree) → AllStand (M.places mem.new) result.1.items trees → IfNone result.0 (Appends (O.taken out.old) (O.taken out.new) (output_of trees)) }
-    ensures wrote_part { (trees : List Tree) → AllStand (M.places mem.new) result.1.items trees → result.0 ≡ Some Fault.WriteFault → TookPart (O.taken out.old) (O.taken out.new) (output_of trees) }
+    ensures wrote { (others : ℕ) (trees : List Tree) → StandApart others (M.places mem.new) (M.buffers mem.new) result.1.items trees → IfNone result.0 (Appends (O.taken out.old) (O.taken out.new) (output_of trees)) }
+    ensures wrote_part { (others : ℕ) (trees : List Tree) → StandApart others (M.places mem.new) (M.buffers mem.new) result.1.items trees → result.0 ≡ Some Fault.WriteFault → TookPart (O.taken out.old) (O.taken out.new) (output_of trees) }
     ensures command { IsParsed result.0 → (frames : List ℕ) × IsCat (map string_bytes words.now) frames }
     ensures bytes { IfNone result.0 (OfTrees (map string_bytes words.now) (F.contents files.old) (λ trees. Appends (O.taken out.old) (O.taken out.new) (output_of trees))) }
     ensures prefix { result.0 ≡ Some Fault.WriteFault → OfTrees (map string_bytes words.now) (F.contents files.old) (λ trees. TookPart (O.taken out.old) (O.taken out.new) (output_of trees)) }
     ensures nothing_written { IsUnparsed result.0 → out.new ≡ out.old }
-    ensures registers { IsParsed result.0 → OfTrees (map string_bytes words.now) (F.contents files.old) (AllStand (M.places mem.new) result.1.items) }
-    ensures stand { (trees : List Tree) × AllStand (M.places mem.new) result.1.items trees }
-    ensures counted { IsParsed result.0 → finite.len (M.places mem.new) ≡ finite.len (M.places mem.old) + length result.1.items }
-    ensures differ { EachTwo Differ result.1.items }
+    ensures registers { IsParsed result.0 → OfTrees (map string_bytes words.now) (F.contents files.old) (StandApart (how_many (M.places mem.old) (M.buffers mem.old)) (M.places mem.new) (M.buffers mem.new) result.1.items) }
+    ensures stand { IsParsed result.0 → (trees : List Tree) × StandApart (how_many (M.places mem.old) (M.buffers mem.old)) (M.places mem.new) (M.buffers mem.new) result.1.items trees }
     ensures no_registers { IsUnparsed result.0 → result.1.items ≡ [] }
     ensures usage { result.0 ≡ Some Fault.Usage → HasNoForm (map string_bytes words.now) }
     ensures no_form { HasNoForm (map string_bytes words.now) → result.0 ≡ Some Fault.Usage }
     ensures unbuilt { IsUnbuilt (map string_bytes words.now) → result.0 ≡ Some Fault.NotBuilt }
-    ensures not_built { result.0 ≡ Some Fault.NotBuilt → IsUnbuilt (map string_bytes words.now) ⊎ OfContent (map string_bytes words.now) (F.contents files.old) (λ content. first_fault content ≡ Some Fault.NotBuilt) }
+    ensures not_built { result.0 ≡ Some Fault.NotBuilt → IsUnbuilt (map string_bytes words.now) }
     ensures exact { (frames content : List ℕ) → IsCat (map string_bytes words.now) frames → content_of (F.contents files.old) frames ≡ Some content → EndsBy (first_fault content) result.0 }
     ensures read_fault { result.0 ≡ Some Fault.ReadFault → Rose (F.faults files.old) (F.faults files.new) }
     ensures blamed { result.0 ≡ Some Fault.ReadFault → (frames : List ℕ) × IsCat (map string_bytes words.now) frames × (F.blamed files.new ≡ Some frames) }
@@ -214,7 +210,6 @@ fn cat<F: Files, O: Sink, M: Memory>(
     ensures unplaced { IsUnplaced result.0 → mem.new ≡ mem.old }
     ensures not_run { IsOtherCommand (map string_bytes words.now) → mem.new ≡ mem.old }
     ensures key { M.key mem.new ≡ M.key mem.old }
-    ensures buffers { M.buffers mem.new ≡ M.buffers mem.old }
 {
     match read_messages(alloc, words, files, mem) {
         Ok(messages) => match write_messages(mem, &messages, out) {

@@ -53,13 +53,20 @@ fn end_of_run(
     })
 }
 
-// A run that ends well writes these bytes for that many messages, of 32 bytes each.
-fn check_well(rt: &impl Abort, end: &End, written: &[u8], messages: u32, name: &str) {
+// A run that ends well writes these bytes for that many messages, which take so many bytes of the arena.
+fn check_well(
+    rt: &impl Abort,
+    end: &End,
+    written: &[u8],
+    messages: u32,
+    space_used: u64,
+    name: &str,
+) {
     assert_eq!(rt; end.fault, None, "{name}");
     assert_eq!(rt; end.status, 0, "{name}");
     assert_eq!(rt; end.taken.as_slice(), written, "{name}");
     assert_eq!(rt; end.registers, messages as usize, "{name}");
-    assert_eq!(rt; end.space_used, 32 * u64::from(messages), "{name}");
+    assert_eq!(rt; end.space_used, space_used, "{name}");
 }
 
 // A run that fails before it writes leaves no register, and the messages that it had placed before.
@@ -111,17 +118,102 @@ fn messages_are_written_again(rt: HostRuntime) -> Result<(), Fail> {
         ),
     ];
     for (name, content, written, messages) in rows {
+        let space_used = 32 * u64::from(messages);
         let end = end_of_run(rt.alloc(), &CAT, content, &[], 65536, &[])?;
-        check_well(&rt, &end, written, messages, name);
+        check_well(&rt, &end, written, messages, space_used, name);
         let end = end_of_run(rt.alloc(), &CAT, content, &[], 1, &[])?;
-        check_well(&rt, &end, written, messages, name);
+        check_well(&rt, &end, written, messages, space_used, name);
+    }
+    Ok(())
+}
+
+// Beside the record of 32 bytes there is an array of 96, and up to 15 unknown bytes lie in a placement.
+#[test]
+fn unknown_records_are_written_again(rt: HostRuntime) -> Result<(), Fail> {
+    let rows: [(&str, &[u8], &[u8], u32, u64); 10] = [
+        (
+            "a group",
+            b"\x04\x13\x08\x01\x14",
+            b"\x04\x13\x08\x01\x14",
+            1,
+            136,
+        ),
+        (
+            "four bytes",
+            b"\x05\x0d\x01\x02\x03\x04",
+            b"\x05\x0d\x01\x02\x03\x04",
+            1,
+            136,
+        ),
+        (
+            "a group behind a plain frame",
+            b"\x02\x08\x01\x04\x13\x08\x01\x14",
+            b"\x02\x08\x01\x04\x13\x08\x01\x14",
+            2,
+            168,
+        ),
+        (
+            "field 1 with wire type 2",
+            b"\x03\x0a\x01\x61",
+            b"\x03\x0a\x01\x61",
+            1,
+            136,
+        ),
+        (
+            "the field between others",
+            b"\x09\x0d\x01\x02\x03\x04\x08\x05\x10\x01",
+            b"\x09\x08\x05\x0d\x01\x02\x03\x04\x10\x01",
+            1,
+            136,
+        ),
+        (
+            "the last record wins",
+            b"\x06\x08\x01\x10\x07\x08\x02",
+            b"\x04\x08\x02\x10\x07",
+            1,
+            136,
+        ),
+        (
+            "a default beside another field",
+            b"\x06\x08\x07\x10\x01\x08\x00",
+            b"\x02\x10\x01",
+            1,
+            136,
+        ),
+        (
+            "a long spelling stays",
+            b"\x04\x90\x00\x81\x00",
+            b"\x04\x90\x00\x81\x00",
+            1,
+            136,
+        ),
+        (
+            "15 bytes",
+            b"\x11\x12\x0d0123456789abc\x08\x01",
+            b"\x11\x08\x01\x12\x0d0123456789abc",
+            1,
+            144,
+        ),
+        (
+            "16 bytes",
+            b"\x12\x12\x0e0123456789abcd\x08\x01",
+            b"\x12\x08\x01\x12\x0e0123456789abcd",
+            1,
+            128,
+        ),
+    ];
+    for (name, content, written, messages, space_used) in rows {
+        let end = end_of_run(rt.alloc(), &CAT, content, &[], 65536, &[])?;
+        check_well(&rt, &end, written, messages, space_used, name);
+        let end = end_of_run(rt.alloc(), &CAT, content, &[], 1, &[])?;
+        check_well(&rt, &end, written, messages, space_used, name);
     }
     Ok(())
 }
 
 #[test]
 fn files_are_refused(rt: HostRuntime) -> Result<(), Fail> {
-    let rows: [(&str, &[u8], u8, Fault, u64); 14] = [
+    let rows: [(&str, &[u8], u8, Fault, u64); 12] = [
         ("a cut frame", b"\x05\x08\x01", 4, cut(0), 0),
         ("a cut length", b"\x02\x08\x01\x80", 4, cut(1), 0),
         (
@@ -188,25 +280,11 @@ fn files_are_refused(rt: HostRuntime) -> Result<(), Fail> {
             32,
         ),
         (
-            "a bad frame behind one that isn't plain",
+            "a bad frame behind one with unknown bytes",
             b"\x05\x0d\x01\x02\x03\x04\x02\x08\x80",
             4,
             bad(1, WireKind::Cut, 1),
-            0,
-        ),
-        (
-            "a group behind a plain frame",
-            b"\x02\x08\x01\x04\x13\x08\x01\x14",
-            9,
-            Fault::NotBuilt,
-            32,
-        ),
-        (
-            "a field of 4 bytes",
-            b"\x05\x0d\x01\x02\x03\x04",
-            9,
-            Fault::NotBuilt,
-            0,
+            136,
         ),
     ];
     for (name, content, status, fault, space_used) in rows {
@@ -228,27 +306,32 @@ fn cut(index: u32) -> Fault {
     Fault::FrameCut { index }
 }
 
+// Three frames, of which the second has 20 unknown bytes.
+const THREE_FRAMES: &[u8] = b"\x03\x08\x96\x01\x14\x12\x120123456789abcdefgh\x02\x08\x05";
+
 #[test]
 fn each_front_of_three_frames(rt: HostRuntime) -> Result<(), Fail> {
-    let rows: [(&[u8], Option<u32>, u32); 9] = [
-        (b"", None, 0),
-        (b"\x03", Some(0), 0),
-        (b"\x03\x08", Some(0), 0),
-        (b"\x03\x08\x96", Some(0), 0),
-        (b"\x03\x08\x96\x01", None, 1),
-        (b"\x03\x08\x96\x01\x00", None, 2),
-        (b"\x03\x08\x96\x01\x00\x02", Some(2), 0),
-        (b"\x03\x08\x96\x01\x00\x02\x08", Some(2), 0),
-        (b"\x03\x08\x96\x01\x00\x02\x08\x05", None, 3),
-    ];
-    for (front, whole, messages) in rows {
-        let end = end_of_run(rt.alloc(), &CAT, front, &[], 65536, &[])?;
-        match whole {
-            None => check_well(&rt, &end, front, messages, "a whole front"),
-            Some(index) => check_refused(&rt, &end, 4, cut(index), 0, "a cut front"),
+    let mut front = Vec::new(rt.alloc());
+    for &byte in THREE_FRAMES {
+        front.push(byte)?;
+        let end = end_of_run(rt.alloc(), &CAT, &front, &[], 65536, &[])?;
+        match front.len() {
+            4 => check_well(&rt, &end, &front, 1, 32, "one frame"),
+            25 => check_well(&rt, &end, &front, 2, 160, "two frames"),
+            28 => check_well(&rt, &end, &front, 3, 192, "three frames"),
+            len => check_refused(&rt, &end, 4, cut(whole_frames(len)), 0, "a cut front"),
         }
     }
     Ok(())
+}
+
+// How many of the three frames are whole where so many bytes stand and the last frame is cut.
+fn whole_frames(len: usize) -> u32 {
+    match len {
+        0..4 => 0,
+        4..25 => 1,
+        _ => 2,
+    }
 }
 
 #[test]
@@ -347,7 +430,7 @@ fn words_are_refused(rt: HostRuntime) -> Result<(), Fail> {
     }
     let words = ["cat", "builtin", "pb.Tick", "f", "01"];
     let end = end_of_run(rt.alloc(), &words, b"\x00", &[], 65536, &[])?;
-    check_well(&rt, &end, b"\x00", 1, "one worker, with a leading zero");
+    check_well(&rt, &end, b"\x00", 1, 32, "one worker, with a leading zero");
     Ok(())
 }
 
@@ -356,7 +439,7 @@ fn long_files(rt: HostRuntime) -> Result<(), Fail> {
     let alloc = rt.alloc();
     let zeros = vec![in alloc; 0u8; 1048576]?;
     let end = end_of_run(alloc, &CAT, &zeros, &[], 65536, &[])?;
-    check_well(&rt, &end, &zeros, 1048576, "2^20 frames");
+    check_well(&rt, &end, &zeros, 1048576, 33554432, "2^20 frames");
     let zeros = vec![in alloc; 0u8; 1048577]?;
     let end = end_of_run(alloc, &CAT, &zeros, &[], 65536, &[])?;
     let fault = too_long(InputKind::FrameCount, 1048576);
@@ -390,7 +473,7 @@ fn each_call_may_fail(rt: HostRuntime) -> Result<(), Fail> {
         assert_eq!(rt; end.space_used, 96, "at {call}");
     }
     let end = end_of_run(rt.alloc(), &CAT, content, &[3], 3, &[3])?;
-    check_well(&rt, &end, content, 3, "no fourth call");
+    check_well(&rt, &end, content, 3, 96, "no fourth call");
     Ok(())
 }
 
@@ -408,6 +491,6 @@ fn many_frames(alloc: Global) -> Result<Vec<u8>, AllocError> {
 fn a_run_with_ample_memory_ends_well(rt: HostRuntime) -> Result<(), Fail> {
     let content = many_frames(rt.alloc())?;
     let end = end_of_run(rt.alloc(), &CAT, &content, &[], 65536, &[])?;
-    check_well(&rt, &end, &content, 27000, "many frames");
+    check_well(&rt, &end, &content, 27000, 864000, "many frames");
     Ok(())
 }

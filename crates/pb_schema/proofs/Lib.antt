@@ -2,7 +2,6 @@ pub mod Steps
 pub mod VarintLaws
 pub mod Places
 pub mod FrameLaws
-pub mod RecordLaws
 pub mod TextLaws
 pub mod FormLaws
 pub mod WalkSteps
@@ -20,4 +19,4 @@ mod TreeExamples
 mod KindExamples
 mod FittedExamples
 mod LawfulExamples
-pub mod TickLaws
+pub mod TickText

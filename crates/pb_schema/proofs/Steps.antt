@@ -1,15 +1,10 @@
--- Steps of a loop that reads or writes the wire format: what a definition says one byte, one frame or one record on.
+-- Steps of a loop that reads or writes the wire format: what a definition says one byte or one frame on.
 use Rattle.std.proofs.Common.{◌≡◌, ℕ, zero, suc, ◌+◌, ◌-◌, ◌*◌, ◌/◌, ◌%◌, ◌^◌, ◌<◌, ◌≤◌, List, [], ◌∷◌, ◌++◌, length, get_or, take, drop, Bool, true, false, cond, Option, None, Some, option_map, option_and_then, Result, Ok, Err, refl, sym, ap, ◌∙◌, ⊎_elim, arith, length-drop, length-take-le, drop-drop, pow-add, ltb, leb, ◌&&◌, eqb}
 use Rattle.std.proofs.lemmas.Bool.{cases_lt, lt-ltb, le-ltb, le-leb, eq-eqb, cond-true, cond-false, and_from, and_parts, ltb-true, leb-true, eqb-true}
 use Rattle.std.proofs.lemmas.Option.{none-some, same_Some, option_and_then_some, cond_some}
 use Rattle.std.proofs.lemmas.List.{at_drop_more, at_drop_all, drop_more, take_more}
 use Rattle.pb_schema.specs.Varint.{seven_bits, varint_bytes, varint_at, tag_bytes, value_bytes, groups, varint_of}
 use Rattle.pb_schema.specs.Frames.{payload_at, frame_at, behind, frames_from, frames_of}
-use Rattle.pb_schema.specs.Tag.{tag_of}
-use Rattle.pb_schema.specs.Tick.Records.{value_at, record_at, values_from, values_of}
-use Rattle.pb_schema.specs.Tick.Tree.{Tree, Held, Nothing, One, tick}
-use Rattle.pb_schema.specs.Tick.Decode.{last_or_zero, tree_of}
-use Rattle.pb_schema.specs.Tick.Text.{field_text, text_of}
 use Rattle.pb_schema.specs.Text.{framed}
 
 -- the value that was mapped
@@ -217,99 +212,6 @@ frames_cut s at l e =
 pub frames_end : (s : List ℕ) (at : ℕ) → length s ≤ at → frames_of (drop at s) ≡ Ok []
 frames_end s at h = at_drop_all frames_of s at h
 
--- RECORDS
-
-pub values_from-skip : (number n : ℕ) (s : List ℕ) → values_from number n s ≡ values_of number (drop n s)
-values_from-skip number zero s = refl
-values_from-skip number (suc n) [] = refl
-values_from-skip number (suc n) (b ∷ s) = values_from-skip number n s
-
--- the record at the front, from its tag and its value
-pub record_at_whole : (number : ℕ) (s : List ℕ) (n v m : ℕ) → varint_at tag_bytes s ≡ Some (tag_of number 0, n) → varint_at value_bytes (drop n s) ≡ Some (v, m) → record_at number s ≡ Some (v, n + m)
-record_at_whole number s n v m tag_is value_is =
-    ap (λ o. option_and_then (λ tag. value_at number tag.0 tag.1 s) o) tag_is
-    ∙ (cond-true (eqb (tag_of number 0) (tag_of number 0)) _ _ (eq-eqb (tag_of number 0) (tag_of number 0) refl)
-    ∙ ap (λ o. option_map (λ value. (value.0, n + value.1)) o) value_is)
-
--- what a record at the front is
-pub record RecordParts (number : ℕ) (s : List ℕ) (v n : ℕ) : Type 0 where
-  pub tag_size : ℕ
-  pub value_size : ℕ
-  pub tag : varint_at tag_bytes s ≡ Some (tag_of number 0, tag_size)
-  pub value : varint_at value_bytes (drop tag_size s) ≡ Some (v, value_size)
-  pub bytes : n ≡ tag_size + value_size
-
-pub record_at_parts : (number : ℕ) (s : List ℕ) (v n : ℕ) → record_at number s ≡ Some (v, n) → RecordParts number s v n
-record_at_parts number s v n e =
-    option_and_then_some (λ tag. value_at number tag.0 tag.1 s) (varint_at tag_bytes s) (v, n) e
-    λ tag was there.
-    let whole = some_where (eqb tag.0 (tag_of number 0)) (option_map (λ value. (value.0, tag.1 + value.1)) (varint_at value_bytes (drop tag.1 s))) (v, n) there in
-    option_map_some (λ value. (value.0, tag.1 + value.1)) (varint_at value_bytes (drop tag.1 s)) (v, n) whole.1
-    λ value here is.
-    record {
-      tag_size = tag.1;
-      value_size = value.1;
-      tag = was ∙ ap (λ t. Some (t, tag.1)) (eqb-true tag.0 (tag_of number 0) whole.0);
-      value = here ∙ ap (λ x. Some (x, value.1)) (ap (λ p. p.0) is);
-      bytes = sym (ap (λ p. p.1) is);
-    }
-
--- a record has a byte, and no more than stand there
-pub record_at_within : (number : ℕ) (s : List ℕ) (v n : ℕ) → record_at number s ≡ Some (v, n) → (1 ≤ n) × (n ≤ length s)
-record_at_within number s v n e =
-    let parts = record_at_parts number s v n e in
-    let front = varint_at_within tag_bytes s (tag_of number 0) parts.tag_size parts.tag in
-    let back = varint_at_within value_bytes (drop parts.tag_size s) v parts.value_size parts.value in
-    (omega (arith, front.0, parts.bytes), omega (arith, parts.bytes, front.2, back.2, length-drop parts.tag_size s))
-
--- what a record at the front makes of the values of the rest
-abbrev after_record : ℕ → Option (ℕ × ℕ) → List ℕ → Option (List ℕ)
-after_record number o s = elim o [ None ↦ None | Some found ↦ option_map (λ vs. found.0 ∷ vs) (values_from number (found.1 - 1) s) ]
-
-values_of_front : (number b : ℕ) (s : List ℕ) → values_of number (b ∷ s) ≡ after_record number (record_at number (b ∷ s)) s
-values_of_front number b s = refl
-
-pub values_more : (number : ℕ) (s : List ℕ) (at v n : ℕ) → at < length s → record_at number (drop at s) ≡ Some (v, n) → values_of number (drop at s) ≡ option_map (λ vs. v ∷ vs) (values_of number (drop (at + n) s))
-values_more number s at v n l e =
-    let within = record_at_within number (drop at s) v n e in
-    let front = drop_more s at 0 l in
-    ap (values_of number) front
-    ∙ (values_of_front number (get_or s at 0) (drop (at + 1) s)
-    ∙ (ap (λ o. after_record number o (drop (at + 1) s)) (sym (ap (record_at number) front) ∙ e)
-    ∙ ap (λ o. option_map (λ vs. v ∷ vs) o) (values_from-skip number (n - 1) (drop (at + 1) s) ∙ ap (values_of number) (dropped_more s at n within.0))))
-
-pub values_cut : (number : ℕ) (s : List ℕ) (at : ℕ) → at < length s → record_at number (drop at s) ≡ None → values_of number (drop at s) ≡ None
-values_cut number s at l e =
-    let front = drop_more s at 0 l in
-    ap (values_of number) front
-    ∙ (values_of_front number (get_or s at 0) (drop (at + 1) s)
-    ∙ ap (λ o. after_record number o (drop (at + 1) s)) (sym (ap (record_at number) front) ∙ e))
-
--- THE LAST VALUE
-
-last_or_zero_none : (vs : List ℕ) → last_or_zero (0 ∷ vs) ≡ last_or_zero vs
-last_or_zero_none [] = refl
-last_or_zero_none (a ∷ vs) = refl
-
--- the number of the field after the records of `rest`, where it is v before them
-abbrev pub last_after : ℕ → ℕ → List ℕ → Option ℕ
-last_after number v rest = option_map (λ vs. last_or_zero (v ∷ vs)) (values_of number rest)
-
--- a loop over the records keeps the last value: it begins with 0
-pub last_after_none : (s : List ℕ) → tree_of s ≡ option_map tick (last_after 1 0 s)
-last_after_none s =
-    option_map_same (λ vs. tick (last_or_zero vs)) (λ vs. tick (last_or_zero (0 ∷ vs))) (values_of 1 s) (λ vs. ap tick (sym (last_or_zero_none vs)))
-    ∙ sym (option_map-map (λ vs. last_or_zero (0 ∷ vs)) tick (values_of 1 s))
-
--- a record more
-pub last_after_more : (number : ℕ) (s : List ℕ) (at w v n : ℕ) → at < length s → record_at number (drop at s) ≡ Some (v, n) → last_after number w (drop at s) ≡ last_after number v (drop (at + n) s)
-last_after_more number s at w v n l e =
-    ap (λ o. option_map (λ vs. last_or_zero (w ∷ vs)) o) (values_more number s at v n l e)
-    ∙ option_map-map (λ vs. v ∷ vs) (λ vs. last_or_zero (w ∷ vs)) (values_of number (drop (at + n) s))
-
-pub last_after_cut : (number : ℕ) (s : List ℕ) (at w : ℕ) → at < length s → record_at number (drop at s) ≡ None → last_after number w (drop at s) ≡ None
-last_after_cut number s at w l e = ap (λ o. option_map (λ vs. last_or_zero (w ∷ vs)) o) (values_cut number s at l e)
-
 -- TEXT
 
 pub groups_last : (more v : ℕ) → v < 128 → groups more v ≡ v ∷ []
@@ -333,16 +235,6 @@ length-groups (suc more) v =
 pub length-varint_of : (v : ℕ) → length (varint_of v) ≤ 10
 length-varint_of v = (length-groups 9 v).1
 
-pub length-text_of : (t : Tree) → length (text_of t) ≤ 11
-length-text_of t = length-field_text t.value
-  where
-    length-field_text : (x : Held) → length (field_text 1 x) ≤ 11
-    length-field_text Nothing = omega arith
-    length-field_text (One v) = omega (arith, length-varint_of v)
-
 -- the prefix of a text below 128 bytes is one byte
 pub framed_short : (s : List ℕ) → length s < 128 → framed s ≡ length s ∷ s
 framed_short s h = ap (λ prefix. prefix ++ s) (groups_last 9 (length s) h)
-
-pub framed-text_of : (t : Tree) → framed (text_of t) ≡ length (text_of t) ∷ text_of t
-framed-text_of t = framed_short (text_of t) (omega (arith, length-text_of t))

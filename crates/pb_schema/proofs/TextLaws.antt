@@ -3,29 +3,9 @@ use Rattle.std.proofs.Common.{◌≡◌, ℕ, zero, suc, ◌^◌, ◌<◌, List,
 use Rattle.std.proofs.lemmas.List.Elements.{All-head, All-tail}
 use Rattle.pb_schema.specs.Varint.{Varint, tag_bytes, varint_of}
 use Rattle.pb_schema.specs.Frames.{Frames, frames_of}
-use Rattle.pb_schema.specs.Tick.Records.{values_of}
-use Rattle.pb_schema.specs.Tick.Tree.{Tree, Held, Nothing, One, IsHeld, Fitted, tick}
-use Rattle.pb_schema.specs.Tick.Decode.{last_or_zero, tree_of}
-use Rattle.pb_schema.specs.Tick.Text.{field_text, text_of}
 use Rattle.pb_schema.specs.Text.{framed}
-use Rattle.pb_schema.proofs.Steps.{length-varint_of}
 use Rattle.pb_schema.proofs.VarintLaws.{varint_of_is, groups_short}
 use Rattle.pb_schema.proofs.FrameLaws.{frames_of_frames}
-use Rattle.pb_schema.proofs.RecordLaws.{values_of_records}
-
--- the field's text is its record
-field_read : (v : ℕ) → v < 2 ^ 64 → values_of 1 (field_text 1 (One v)) ≡ Some (v ∷ [])
-field_read v h =
-    values_of_records 1 (field_text 1 (One v)) (v ∷ [])
-    (varint_of 8, varint_of v, [], ap (λ s. varint_of 8 ++ s) (sym (append-nil (varint_of v))), varint_of_is 8 5 (omega arith) (omega arith), varint_of_is v 10 h (length-varint_of v), refl)
-
-text_of_field : (x : Held) → IsHeld x → option_map (λ vs. tick (last_or_zero vs)) (values_of 1 (field_text 1 x)) ≡ Some (record { value = x })
-text_of_field Nothing p = refl
-text_of_field (One zero) p = absurd (omega (arith, p.0))
-text_of_field (One (suc v)) p = ap (λ o. option_map (λ vs. tick (last_or_zero vs)) o) (field_read (suc v) p.1)
-
-pub text_is_read_back : (t : Tree) → Fitted t → tree_of (text_of t) ≡ Some t
-text_is_read_back t p = text_of_field t.value p
 
 -- five bytes are enough for a prefix
 prefix_is : (s : List ℕ) → length s < 2 ^ 31 → Varint (varint_of (length s)) tag_bytes (length s)

@@ -17,5 +17,4 @@ pub mod Units
 pub mod Merge
 pub mod Fitted
 pub mod Lawful
-pub mod Tick
 pub mod Builtin

@@ -2,6 +2,7 @@
 ghost use Rattle.std.specs.Prelude.{◌≡◌, ◌≢◌, ◌↔◌, ℕ, ◌+◌, ◌-◌, ◌*◌, ◌%◌, ◌^◌, ◌<◌, ◌≤◌, List, [], ◌++◌, length, take, IsSome, None, Some, Ok, Err, All, flat_map, map, sum, slice_index};
 ghost use Rattle.std.specs.List.{range_with_len};
 ghost use Rattle.pb_schema.specs.declared.schema.Schema.{Schema};
+ghost use Rattle.pb_schema.specs.Builtin.{builtin};
 ghost use Rattle.pb_schema.specs.Varint.{Varint, varint_at, length_bytes, value_bytes, varint_of};
 ghost use Rattle.pb_schema.specs.Tag.{IsTag};
 ghost use Rattle.pb_schema.specs.Form.{Form, read_tag, read_length};
@@ -16,7 +17,7 @@ ghost use Rattle.pb_schema.specs.Fitted.{Fitted};
 ghost use Rattle.pb_schema.specs.Lawful.{Lawful};
 ghost use Rattle.pb_schema.specs.Empty.{empty};
 ghost use Rattle.pb_schema.specs.Merge.{merge_of};
-ghost use Rattle.pb_schema.specs.Text.{framed};
+ghost use Rattle.pb_schema.specs.Text.{framed, text_of};
 
 /// A varint has one to `most` bytes, each but the last at least 128 and the last below 128, and its value is the sum
 /// of the low seven bits of each byte times 128 to the byte's place, modulo 2^64.
@@ -90,4 +91,9 @@ pub fn shortest_varint()
 /// Frames that are written are read as their payloads, where each is shorter than 2^31 bytes.
 pub fn frames_are_read_back()
     ensures { (payloads : List (List ℕ)) → All (λ payload. length payload < 2 ^ 31) payloads → frames_of (flat_map framed payloads) ≡ Ok payloads }
+{}
+
+/// What is written for a message of `pb.Tick` is read as that message, with its unknown bytes.
+pub fn ticks_are_read_back()
+    ensures { (t : Tree) → Fitted builtin 0 t → tree_of builtin 0 (text_of builtin 0 t) ≡ Some t }
 {}

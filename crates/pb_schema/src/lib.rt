@@ -5,28 +5,24 @@
 //! functions state laws over them. Its contract: varints, frames and records have at most one reading, and the
 //! function that computes it finds it exactly where there is one. A payload has a tree exactly where it has no fault,
 //! and by a lawful schema that tree is one that a message of its type may be. What is written is read back: shown of
-//! frames and of plain payloads of `pb.Tick`, and of whole trees by worked values alone.
+//! frames and of messages of `pb.Tick`, and of other trees by worked values alone.
 #![tactic(auto)]
 
 mod kind;
 mod laws;
 mod lists;
 mod schema;
-mod tick;
 mod wire_fault;
 
 pub use kind::{Card, FieldType, Kind};
 pub use laws::{
     a_tree_where_no_fault, decoded_trees_are_fitted, empty_merges_to_the_same,
     frames_are_read_back, one_framing, one_list_of_records, one_record, one_varint,
-    shortest_varint, varint_by_places,
+    shortest_varint, ticks_are_read_back, varint_by_places,
 };
 pub use lists::{ByteList, FieldList, Name};
 pub use no_memory::NoMemory;
 pub use schema::{MessageType, Schema, TypeList};
-pub use tick::{
-    one_list_of_values, plain_ticks_mean_the_same, text_is_read_back, trees_are_fitted,
-};
 pub use wire_fault::{WireFault, WireKind};
 
 #[cfg(test)]

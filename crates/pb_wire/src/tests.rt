@@ -170,7 +170,7 @@ fn a_million_groups(rt: HostRuntime) -> Result<(), Fail> {
     Ok(())
 }
 
-// The payloads of a file, one behind another, each ended by a byte 0xee.
+// The payloads of a file, one behind another, each ended by a byte 0xee. Both calls that lend a payload give the same.
 fn payloads(alloc: Global, file: &[u8]) -> Result<Result<Vec<u8>, FrameFault>, AllocError> {
     let frames = match read_frames(alloc, file.to_vec(alloc)?) {
         Ok(frames) => frames,
@@ -178,8 +178,13 @@ fn payloads(alloc: Global, file: &[u8]) -> Result<Result<Vec<u8>, FrameFault>, A
     };
     let mut all = Vec::new(alloc);
     for index in 0..frames.count() {
-        all.extend_from_slice(frames.payload(index))?;
-        all.push(0xee)?;
+        let (bytes, len) = frames.payload_and_behind(index);
+        all.extend_from_slice(&bytes[..len])?;
+        all.push(if frames.payload(index) == &bytes[..len] {
+            0xee
+        } else {
+            0
+        })?;
     }
     Ok(Ok(all))
 }

@@ -1,12 +1,13 @@
-use Rattle.std.proofs.Common.{◌≡◌, Some, ◌∙◌, subst, inr}
+use Rattle.std.proofs.Common.{◌≡◌, List, ℕ, ◌∙◌, subst}
 use Rattle.std.specs.Prelude.{IfOk, IfSome}
 use Rattle.std.specs.String.{string_bytes}
-use Rattle.arena_run.specs.declared.fault.Fault.TheVariants.{NotBuilt}
+use Rattle.arena_mem.specs.declared.place.Place.{Place}
+use Rattle.pb_schema.specs.Tree.{Tree}
 use Rattle.arena_run.specs.Contents.{content_of, HasTrees}
 use Rattle.arena_run.specs.Ends.{EndsBy, result_fault}
 use Rattle.arena_run.specs.Faults.{first_fault}
-use Rattle.arena_run.specs.Stands.{AllStand}
-use Rattle.arena_run.proofs.Firsts.{parsed_first, parsed_trees, unbuilt_first, found_has}
+use Rattle.arena_run.specs.Stands.{StandApart, how_many}
+use Rattle.arena_run.proofs.Firsts.{parsed_first, parsed_trees, found_has}
 use Rattle.arena_run.proofs.WordForms.{same_frames, for_each_file}
 use Rattle.arena_run.proofs.program.read_messages.Goals as goal
 
@@ -18,12 +19,14 @@ returns-in_default-clause-exact g c = λ frames content is_cat _. absurd (c.in_d
 
 pub returns-clause-stand : goal.returns-clause-stand
 returns-clause-stand g c =
+    let M = g.M.Memory in
     let file = c.in-Ok-read_frames_file in
     let files = g.F.Files.contents c.args.files.now in
+    let Stand : List Place → List Tree → Type 0 = StandApart (how_many (M.places c.args.mem.now) (M.buffers c.args.mem.now)) (M.places c.parse_frames.new.mem) (M.buffers c.parse_frames.new.mem) in
     let name : string_bytes c.in-Ok.name ≡ string_bytes c.in-Some.word.now = c.in-Ok.ensures.cases in
-    let parsed = parsed_trees c.parse_frames.result (content_of files (string_bytes c.in-Ok.name)) file.frames (λ messages. AllStand (g.M.Memory.places c.parse_frames.new.mem) messages.items) file.ensures.whole file.ensures.few c.parse_frames.ensures.sound c.parse_frames.ensures.stand in
-    for_each_file c.parse_frames.result _ files (string_bytes c.in-Some.word.now) (λ messages content. HasTrees content (AllStand (g.M.Memory.places c.parse_frames.new.mem) messages.items)) c.in-Some.ensures
-    (subst (λ n. IfOk c.parse_frames.result (λ messages. IfSome (content_of files n) (λ content. HasTrees content (AllStand (g.M.Memory.places c.parse_frames.new.mem) messages.items)))) name parsed)
+    let parsed = parsed_trees c.parse_frames.result (content_of files (string_bytes c.in-Ok.name)) file.frames (λ messages. Stand messages.items) file.ensures.whole file.ensures.few c.parse_frames.ensures.sound c.parse_frames.ensures.stand in
+    for_each_file c.parse_frames.result _ files (string_bytes c.in-Some.word.now) (λ messages content. HasTrees content (Stand messages.items)) c.in-Some.ensures
+    (subst (λ n. IfOk c.parse_frames.result (λ messages. IfSome (content_of files n) (λ content. HasTrees content (Stand messages.items)))) name parsed)
 
 pub returns-clause-exact : goal.returns-clause-exact
 returns-clause-exact g c = λ frames content is_cat found.
@@ -33,11 +36,3 @@ returns-clause-exact g c = λ frames content is_cat found.
     found_has (content_of files frames) content (λ s. EndsBy (first_fault s) (result_fault c.parse_frames.result)) found
     (subst (λ n. IfSome (content_of files n) (λ s. EndsBy (first_fault s) (result_fault c.parse_frames.result))) name
     (parsed_first c.parse_frames.result _ file.frames file.ensures.whole file.ensures.few c.parse_frames.ensures.kind c.parse_frames.ensures.fault c.parse_frames.ensures.sound))
-
-pub returns-clause-not_built : goal.returns-clause-not_built
-returns-clause-not_built g c = λ is. inr (λ frames is_cat.
-    let file = c.in-Ok-read_frames_file in
-    let files = g.F.Files.contents c.args.files.now in
-    let name : string_bytes c.in-Ok.name ≡ frames = c.in-Ok.ensures.cases ∙ same_frames _ _ frames c.in-Some.ensures is_cat in
-    subst (λ n. IfSome (content_of files n) (λ content. first_fault content ≡ Some NotBuilt)) name
-    (unbuilt_first c.parse_frames.result _ is (parsed_first c.parse_frames.result _ file.frames file.ensures.whole file.ensures.few c.parse_frames.ensures.kind c.parse_frames.ensures.fault c.parse_frames.ensures.sound)))

@@ -1,20 +1,32 @@
-use Rattle.std.proofs.Common.{◌∙◌}
+use Rattle.std.proofs.Common.{Some, replicate, ap, ◌∙◌, arith, w64}
+use Rattle.std.specs.Int.{to_le_bytes}
+use Rattle.std.specs.Option.{option_map}
+use Rattle.arena_mem.specs.Places.{splice}
+use Rattle.std.specs.FinMap as map
 use Rattle.arena_run.proofs.Counted.{len_placed, len_written}
-use Rattle.arena_run.proofs.Messages.{fresh_stands, written_stands}
+use Rattle.arena_run.proofs.Messages.{zeros_are_plain, written_is_plain, plain_made}
 use Rattle.arena_run.proofs.tick.create.Goals as goal
 
-pub returns-then-value-ne0-clause-stands : goal.returns-then-value-ne0-clause-stands
-returns-then-value-ne0-clause-stands g c =
-    written_stands (g.M.Memory.places c.place.new.self) _ c.in-Ok.message c.in-Ok.message.len c.args.value c.to_le_bytes.result c.ranges.value.fits
-    c.in-Ok.ensures.zeros c.in-Ok.ensures.len c.to_le_bytes.ensures c.write.ensures.here
+pub returns-then-value-ne0-clause-made : goal.returns-then-value-ne0-clause-made
+returns-then-value-ne0-clause-made g c =
+    let made = c.in-Ok.ensures in
+    let spelled = c.to_le_bytes.ensures in
+    let found = c.write.ensures.here ∙ ap (option_map (splice 24 c.to_le_bytes.result)) made.zeros ∙ ap (λ bs. option_map (splice 24 bs) (Some (replicate c.in-Ok.message.len 0))) spelled in
+    let counted = len_written (g.M.Memory.places c.place.new.self) _ c.in-Ok.message 24 c.to_le_bytes.result _ made.zeros c.write.ensures.map ∙ len_placed _ _ c.in-Ok.message _ made.fresh made.map in
+    plain_made _ _ _ _ c.in-Ok.message c.args.value (splice 24 (to_le_bytes w64 c.args.value) (replicate c.in-Ok.message.len 0)) made.fresh found (written_is_plain c.in-Ok.message.len c.args.value made.len c.ranges.value.fits) counted (c.write.ensures.buffers ∙ made.buffers)
 
-pub returns-else-value-ne0-clause-stands : goal.returns-else-value-ne0-clause-stands
-returns-else-value-ne0-clause-stands g c =
-    fresh_stands _ c.in-Ok.message c.in-Ok.message.len c.args.value c.in-Ok.ensures.zeros c.in-Ok.ensures.len c.if-value-ne0.false
+pub returns-then-value-ne0-clause-few : goal.returns-then-value-ne0-clause-few
+returns-then-value-ne0-clause-few g c =
+    let made = c.in-Ok.ensures in
+    let counted = len_written (g.M.Memory.places c.place.new.self) _ c.in-Ok.message 24 c.to_le_bytes.result _ made.zeros c.write.ensures.map ∙ len_placed _ _ c.in-Ok.message _ made.fresh made.map in
+    record { few_places = omega (arith, counted); few_buffers = omega (arith, ap map.len (c.write.ensures.buffers ∙ made.buffers)) }
 
-pub returns-then-value-ne0-clause-counted : goal.returns-then-value-ne0-clause-counted
-returns-then-value-ne0-clause-counted g c =
-    len_written (g.M.Memory.places c.place.new.self) _ c.in-Ok.message 24 c.to_le_bytes.result _ c.in-Ok.ensures.zeros c.write.ensures.map ∙ len_placed _ _ c.in-Ok.message _ c.in-Ok.ensures.fresh c.in-Ok.ensures.map
+pub returns-else-value-ne0-clause-made : goal.returns-else-value-ne0-clause-made
+returns-else-value-ne0-clause-made g c =
+    let made = c.in-Ok.ensures in
+    plain_made _ _ _ _ c.in-Ok.message c.args.value (replicate c.in-Ok.message.len 0) made.fresh made.zeros (zeros_are_plain c.in-Ok.message.len c.args.value made.len c.if-value-ne0.false) (len_placed _ _ c.in-Ok.message _ made.fresh made.map) made.buffers
 
-pub returns-else-value-ne0-clause-counted : goal.returns-else-value-ne0-clause-counted
-returns-else-value-ne0-clause-counted g c = len_placed _ _ c.in-Ok.message _ c.in-Ok.ensures.fresh c.in-Ok.ensures.map
+pub returns-else-value-ne0-clause-few : goal.returns-else-value-ne0-clause-few
+returns-else-value-ne0-clause-few g c =
+    let made = c.in-Ok.ensures in
+    record { few_places = omega (arith, len_placed _ _ c.in-Ok.message _ made.fresh made.map); few_buffers = omega (arith, ap map.len made.buffers) }

@@ -1,7 +1,12 @@
-use Rattle.std.proofs.Common.{arith}
-use Rattle.arena_run.proofs.Window.{one_byte_more}
+use Rattle.std.proofs.Common.{◌+◌, ◌-◌, ◌^◌, ◌<◌, ◌≤◌, bit_and, drop, length, get_or, length-drop, refl, arith}
+use Rattle.std.proofs.lemmas.List.{get_or-drop}
+use Rattle.arena_run.proofs.Window.{window_found}
 use Rattle.arena_run.proofs.wire.read_window.Goals as goal
 
-pub loop-i-preserved : goal.loop-i-preserved
-loop-i-preserved c =
-    one_byte_more c.args.bytes.now c.args.start c.loop-i.i c.loop-i.value c.loop-i.count c.loop-i.more c.from.result c.from-more.result c.loop-i.invariant (omega arith) c.requires (omega arith) (omega arith) c.from.ensures c.from-more.ensures
+pub returns : goal.returns
+returns c =
+    let bytes = c.args.bytes.now in
+    let start = c.args.start in
+    let window = c.window_at-window.result in
+    window_found (drop start bytes) window (bit_and (2 ^ 64 - 1 - window) 0x8080_8080_8080_8080) c.join_groups-value.result (omega (arith, length-drop start bytes, c.requires))
+    (λ k. omega (arith, get_or-drop start bytes k 0, (c.type_inv.bytes (start + k)).fits)) c.window_at-window.ensures refl (omega (arith, c.if-ends-eq0.false)) c.join_groups-value.ensures

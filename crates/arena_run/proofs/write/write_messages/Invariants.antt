@@ -1,7 +1,7 @@
 use Rattle.std.proofs.Common.{◌≡◌, ◌≤◌, List, length, take}
 use Rattle.std.specs.Io.KnownBytes.{Appends, append_known}
-use Rattle.pb_schema.specs.Tick.Tree.{Tree}
-use Rattle.arena_run.specs.Stands.{AllStand}
+use Rattle.pb_schema.specs.Tree.{Tree}
+use Rattle.arena_run.specs.Stands.{Foot, AllStand}
 use Rattle.arena_run.specs.Written.{output_of, KeepsTaken}
 use Rattle.arena_run.proofs.write.write_messages.Given as goal
 
@@ -10,7 +10,7 @@ abbrev pub invariant-loop-message : goal.invariant-loop-message
 invariant-loop-message g l =
     let O = g.O.Sink in
     record {
-      frames : (trees : List Tree) → AllStand (g.M.Memory.places l.mem) l.messages trees → Appends (O.taken l.fn.out) (append_known (O.taken l.out) (take l.filled l.buffer)) (output_of (take l.message-index trees));
+      frames : (trees : List Tree) (feet : List Foot) → AllStand (g.M.Memory.places l.mem) (g.M.Memory.buffers l.mem) l.messages trees feet → Appends (O.taken l.fn.out) (append_known (O.taken l.out) (take l.filled l.buffer)) (output_of (take l.message-index trees));
       kept : KeepsTaken (O.taken l.fn.out) (O.taken l.out);
       faults : O.faults l.fn.out ≤ O.faults l.out;
       filled : l.filled ≤ length l.buffer;
