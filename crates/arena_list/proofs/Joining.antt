@@ -166,6 +166,7 @@ module _ {V : Type 0} (m : Meter V) (k : Founding V) (s : State (Option V) (View
       slots = r.slots;
       listed = r.listed;
       callers = r.callers;
+      started = r.started;
       hands = join_hands;
       known = λ j u a. ⊎_elim (λ t. subst (λ (u : View V). Knows r.core u) t.1 knows_spent)
           (λ t. ⊎_elim (λ p. subst (λ (u : View V). Knows r.core u) p.1 knows_both) (λ p. r.known j u p.1) (at_set s.views id j one u t.1))

@@ -117,6 +117,7 @@ module _ {V : Type 0} (m : Meter V) (k : Founding V) (s : State (Option V) (View
           slots = step.slots;
           listed = λ i n e. ⊎_elim (λ t. r.listed i n t) (λ t. subst (λ (n : Node). IsListed r.holder n) (sym t) record { slot = mine.slot; held = mine.held }) (step.adds i n e);
           callers = step.callers;
+          started = begins_on r.started step.grows;
           hands = λ j i u g in_views in_hands. ⊎_elim
               (λ t. let here : get_elem? w.hands i ≡ some g = ap (λ (u : View V). get_elem? u.hands i) t.1 ∙ in_hands in let only = only_hand w.hands h' g i one' here in
               let places : (id, 0, h') ≡ (j, i, g) = (λ x. (sym t.0 x, sym only.0 x, only.1 x)) in

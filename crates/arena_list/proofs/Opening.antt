@@ -43,10 +43,10 @@ module _ {A : Type 0} (test : A → Bool) where
   filter_tells [] j x e = absurd (some-ne-none x (sym e))
   filter_tells (y ∷ ys) j x e = ⊎_elim (λ t. (0, ap (λ (z : A). some z) t.1, ap test (sym t.1) ∙ t.0)) (λ t. let r = filter_tells ys t.0 x t.1 in (suc r.0, r.1, r.2)) (from_cond (test y) y x (filter test ys) j e)
 
-differ_tail : (x : ℕ) (xs : List ℕ) → Differ (x ∷ xs) → Differ xs
+pub differ_tail : (x : ℕ) (xs : List ℕ) → Differ (x ∷ xs) → Differ xs
 differ_tail x xs d i j y a b = let s = d (suc i) (suc j) y a b in omega arith
 
-differ_cons : (x : ℕ) (xs : List ℕ) → Differ xs → ((i : ℕ) → ¬ (get_elem? xs i ≡ some x)) → Differ (x ∷ xs)
+pub differ_cons : (x : ℕ) (xs : List ℕ) → Differ xs → ((i : ℕ) → ¬ (get_elem? xs i ≡ some x)) → Differ (x ∷ xs)
 differ_cons x xs d new zero zero y a b = refl
 differ_cons x xs d new zero (suc j) y a b = absurd (new j (b ∙ sym a))
 differ_cons x xs d new (suc i) zero y a b = absurd (new i (a ∙ sym b))
@@ -345,5 +345,6 @@ module _ {V : Type 0} (m : Meter V) (k : Founding V) (words : List ℕ) (fit : A
     traced = traced_from;
     idle = λ s low e. home_at s low;
     stand = λ i who e. ((hand_for k who).slot, stands_fresh i who e);
+    started = begins_itself (map node_of linked);
     counted = (let a = len_map (hand_for k) callers in omega arith);
   }

@@ -155,6 +155,7 @@ module _ {V : Type 0} (m : Meter V) (k : Founding V) (s : State (Option V) (View
       slots = r.slots;
       listed = r.listed;
       callers = r.callers;
+      started = r.started;
       hands = split_hands;
       known = λ j u a. ⊎_elim
           (λ t. ⊎_elim (λ p. subst (λ (u : View V). Knows r.core u) p.1 record { seen = knows.seen; room = knows.room; pasts = knows.pasts; sizes = knows.sizes }) (λ p. r.known j u p.1) (at_set s.views id j left u t))

@@ -1,6 +1,6 @@
 //! The list as its callers share it, and the seat with which one of them steps.
-ghost use Rattle.std.specs.Prelude.{◌≡◌};
-ghost use Rattle.arena_list.specs.Founded.{meter, others_of};
+ghost use Rattle.std.specs.Prelude.{◌≡◌, ◌<◌, length, map};
+ghost use Rattle.arena_list.specs.Founded.{meter, others_of, slot, Differ};
 ghost use Rattle.arena_list.specs.Steps.{IsSeated};
 
 use crate::entry::Entry;
@@ -33,6 +33,8 @@ pub struct ArenaList<V: Part> {
     pub(crate) others: Vec<Entry<V>>,
     ghost sized: { (table.shared.table_id.words ≡ 592) × (table.shared.table_id.slots ≡ 64) },
     ghost kept: { others.items ≡ others_of table.shared.key.linked.items table.shared.key.callers.items },
+    ghost apart: { Differ (map slot others.items) },
+    ghost called: { 0 < length table.shared.key.callers.items },
 }
 
 /// One caller's right to step on a list. Its view is what the caller knows of it.

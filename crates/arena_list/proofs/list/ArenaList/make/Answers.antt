@@ -3,7 +3,7 @@ use Rattle.arena_list.specs.declared.founding.Founding.{Founding}
 use Rattle.arena_list.specs.Founded.{meter, AreFit}
 use Rattle.arena_list.proofs.Opening.{opens}
 use Rattle.arena_list.proofs.Filling.{no_other_spare, spare_seated}
-use Rattle.arena_list.proofs.Making.{fit_as, laid_as, none_yet, in_order, are_first}
+use Rattle.arena_list.proofs.Making.{fit_as, laid_as, none_yet, in_order, are_first, others_apart}
 use Rattle.arena_list.proofs.list.ArenaList.make.Goals as goal
 
 pub vacant-requires : goal.vacant-requires
@@ -24,9 +24,12 @@ pub invariant_of-result : goal.invariant_of-result
 invariant_of-result g c = let key = c.in-Ok-vacant.ensures.5 in let linked_is = ap (λ k. k.linked.items) key ∙ (c.of.ensures ∙ c.as_slice-2.ensures.value) in let spare_is = ap (λ k. k.spare.items) key ∙ (c.of-2.ensures ∙ c.as_slice-3.ensures.value) in
     let callers_is = ap (λ k. k.callers.items) key ∙ c.of-3.ensures in let cs = c.in-Ok-vacant.table.shared.key.callers.items in
     let fit = fit_as (meter g.V.Part.owner_of g.V.Part.life_of g.V.Part.used_of) c.args.life c.args.linked.items c.args.linked.items c.args.spare.items c.args.spare.items c.args.callers.now cs refl refl callers_is c.requires in
-    let nothing = none_yet c.in-Ok.others.items c.fill.new.others.items c.args.spare.items cs c.in-Ok.ensures.0 c.fill.ensures.others (no_other_spare (meter g.V.Part.owner_of g.V.Part.life_of g.V.Part.used_of) c.args.life c.args.linked.items c.args.spare.items cs fit c.args.spare.items (spare_seated (meter g.V.Part.owner_of g.V.Part.life_of g.V.Part.used_of) c.args.life c.args.linked.items c.args.spare.items cs fit)) in record {
+    let nothing = none_yet c.in-Ok.others.items c.fill.new.others.items c.args.spare.items cs c.in-Ok.ensures.0 c.fill.ensures.others (no_other_spare (meter g.V.Part.owner_of g.V.Part.life_of g.V.Part.used_of) c.args.life c.args.linked.items c.args.spare.items cs fit c.args.spare.items (spare_seated (meter g.V.Part.owner_of g.V.Part.life_of g.V.Part.used_of) c.args.life c.args.linked.items c.args.spare.items cs fit)) in
+    let kept = c.reverse.ensures.items ∙ in_order c.fill.new.others.items c.fill-2.new.others.items c.args.linked.items c.in-Ok-vacant.table.shared.key.linked.items cs nothing c.fill-2.ensures.others linked_is in record {
       sized = (c.in-Ok-vacant.ensures.0 ∙ c.opening_words-words.ensures.wide, c.in-Ok-vacant.ensures.1);
-      kept = c.reverse.ensures.items ∙ in_order c.fill.new.others.items c.fill-2.new.others.items c.args.linked.items c.in-Ok-vacant.table.shared.key.linked.items cs nothing c.fill-2.ensures.others linked_is;
+      kept = kept;
+      apart = others_apart (meter g.V.Part.owner_of g.V.Part.life_of g.V.Part.used_of) c.args.life c.args.linked.items c.in-Ok-vacant.table.shared.key.linked.items c.args.spare.items cs fit linked_is _ kept;
+      called = fit.some_caller;
     }
 
 pub returns-clause-seats : goal.returns-clause-seats
