@@ -52,7 +52,7 @@ few n xs differ small = length-le_from_distinct_below xs n
     (λ q t. let p = any_at q xs t in small p.0 q p.1)
 
 module _ (holder : ℕ → maybe.Option ℕ) (nodes : List Node) (listed : (i : ℕ) (n : Node) → get_elem? nodes i ≡ some n → IsListed holder n) (callers : CallersDiffer nodes) where
-  slots_differ : Differ (map slot_of nodes)
+  pub slots_differ : Differ (map slot_of nodes)
   slots_differ i j x a b = let p = at_mapped slot_of nodes i x a in let q = at_mapped slot_of nodes j x b in
       let same : p.0.slot ≡ q.0.slot = p.2 ∙ sym q.2 in
       let who : p.0.caller ≡ q.0.caller = some-injective _ _ (sym (listed i p.0 p.1).held ∙ ap holder same ∙ (listed j q.0 q.1).held) in

@@ -21,4 +21,6 @@ pub mod Sums
 pub mod Worked
 pub mod OneList
 pub mod Closing
+pub mod Collecting
+pub mod Ending
 pub mod Gathering

@@ -1,20 +1,81 @@
--- What closing a list works with.
-use Rattle.std.specs.Prelude.{◌≡◌, ◌⊎◌, ℕ, List, [], ◌∷◌, if◌then◌else◌}
+-- What closing a list works with, and what it gives.
+use Rattle.std.specs.Prelude.{◌≡◌, ◌≢◌, ◌⊎◌, ℕ, ◌≤◌, ◌<◌, true, List, [], ◌∷◌, ◌++◌, Option, Some, None, length, map, slice_index, if◌then◌else◌}
 use mathlib.Core.Option.{some}
 use lib.ListN.{get_elem?}
 use Rattle.arena_mem.specs.declared.part.Part.{Ghosts}
+use Rattle.arena_list.specs.declared.entry.Entry.{Entry}
+use Rattle.arena_list.specs.declared.list.ArenaList.{ArenaList}
 use Rattle.arena_list.specs.declared.list.ListSeat.{ListSeat}
 use Rattle.arena_list.specs.declared.view.Node.{Node}
-use Rattle.arena_list.specs.declared.view.Hold.TheVariants.{Rests}
+use Rattle.arena_list.specs.declared.view.Hold.{Hold}
+use Rattle.arena_list.specs.declared.view.Hold.TheVariants.{Vacant, Filling, Away, Rests}
 use Rattle.arena_list.specs.declared.view.Hand.{Hand}
 use Rattle.arena_list.specs.declared.view.View.{View}
+use Rattle.arena_list.specs.Nodes.{before, head_of, node_word, Begins}
+use Rattle.arena_list.specs.Words.{node_at}
+use Rattle.arena_list.specs.Founded.{Differ, slot, caller, node_of}
 use Rattle.arena_list.specs.Views.{hand, out}
-use Rattle.arena_list.specs.Seats.{view}
+use Rattle.arena_list.specs.Seats.{view, IsSeatOf}
 
 module _ {V : Type 0} where
   -- the view has seen these nodes, itself or in a seat that was joined into it
   abbrev pub HasTold : View V → List Node → Type 0
   HasTold v nodes = (v.seen ≡ nodes) ⊎ ((i : ℕ) × (get_elem? v.pasts i ≡ some nodes))
+
+  abbrev pub entry : ℕ → ℕ → V → Entry V
+  entry slot caller part = record { slot = slot; caller = caller; part = part }
+
+  abbrev pub IsAmong : List (Entry V) → Entry V → Type 0
+  IsAmong es e = (i : ℕ) × (get_elem? es i ≡ some e)
+
+  -- the entry is the hand's: its slot, its caller, and the value that rests there
+  abbrev pub IsOwn : Hand V → Entry V → Type 0
+  IsOwn h e = (e.slot ≡ h.slot) × (e.caller ≡ h.who) × (h.hold ≡ Rests e.part)
+
+  -- the value, where it rests
+  abbrev pub rested : Hold V → List V
+  rested Vacant = []
+  rested Filling = []
+  rested (Away used) = []
+  rested (Rests part) = part ∷ []
+
+  abbrev pub own_entry : Hand V → List (Entry V)
+  own_entry h = map (entry h.slot h.who) (rested h.hold)
+
+  -- the entries of the hands that never joined the list, in the order of the hands
+  abbrev pub spares_of : List (Hand V) → List (Entry V)
+  spares_of [] = []
+  spares_of (h ∷ hs) = if h.linked then spares_of hs else (own_entry h ++ spares_of hs)
+
+  -- ---- values in the slots of a closed list
+  -- each entry's value is in the entry's slot, and the slots differ
+  pub record AreIn (parts : List (Option V)) (es : List (Entry V)) : Type 0 where
+    pub apart : Differ (map slot es)
+    pub there : (i : ℕ) (e : Entry V) → get_elem? es i ≡ some e → get_elem? parts e.slot ≡ some (Some e.part)
+
+  -- the words write these entries down, oldest first, and each one's value is in its slot
+  pub record AreStored (words : List ℕ) (parts : List (Option V)) (es : List (Entry V)) : Type 0 where
+    pub head : slice_index words 0 ≡ head_of (map node_of es)
+    pub nodes : (k : ℕ) (e : Entry V) → get_elem? es k ≡ some e → slice_index words (node_at e.slot) ≡ node_word e.caller (before (map node_of es) k)
+    pub small : (k : ℕ) (e : Entry V) → get_elem? es k ≡ some e → e.slot < 64
+    pub few : length es ≤ 64
+    pub values : AreIn parts es
+
+  -- these entries' values were put into their slots
+  pub record Fills (old new : List (Option V)) (es : List (Entry V)) : Type 0 where
+    pub here : (i : ℕ) (e : Entry V) → get_elem? es i ≡ some e → get_elem? new e.slot ≡ some (Some e.part)
+    pub only : (k : ℕ) (x : Option V) → get_elem? new k ≡ some x → (get_elem? old k ≡ some x) ⊎ ((i : ℕ) × (e : Entry V) × (get_elem? es i ≡ some e) × (e.slot ≡ k))
+    pub rest : (k : ℕ) → ((i : ℕ) (e : Entry V) → get_elem? es i ≡ some e → e.slot ≢ k) → get_elem? new k ≡ get_elem? old k
+
+  -- these entries' values were taken out of their slots
+  pub record Empties (old new : List (Option V)) (es : List (Entry V)) : Type 0 where
+    pub gone : (i : ℕ) (e : Entry V) → get_elem? es i ≡ some e → get_elem? new e.slot ≡ some None
+    pub only : (k : ℕ) (x : Option V) → get_elem? new k ≡ some x → (x ≡ None) ⊎ (get_elem? old k ≡ some x)
+    pub rest : (k : ℕ) → ((i : ℕ) (e : Entry V) → get_elem? es i ≡ some e → e.slot ≢ k) → get_elem? new k ≡ get_elem? old k
+
+  -- where an entry is, and whose
+  abbrev pub place_of : Entry V → ℕ × ℕ
+  place_of e = (e.slot, e.caller)
 
 module _ {V : Type 0} {g : Ghosts V} where
   abbrev pub hand_of : ListSeat V g → Hand V
@@ -28,3 +89,25 @@ module _ {V : Type 0} {g : Ghosts V} where
   abbrev pub slots_of : List (ListSeat V g) → List (ℕ × ℕ)
   slots_of [] = []
   slots_of (s ∷ ss) = if s.linked then slots_of ss else ((s.slot, s.caller) ∷ slots_of ss)
+
+  -- these are all seats of the list, and each one's slot is home
+  pub record AreAll (list : ArenaList V) (seats : List (ListSeat V g)) : Type 0 where
+    pub count : length seats ≡ length list.table.shared.key.callers.items
+    pub each : (k : ℕ) (s : ListSeat V g) → get_elem? seats k ≡ some s → IsSeatOf list s × Rested s
+
+  -- the entry is that of a seat whose slot is in the list
+  abbrev pub IsJoined : List (ListSeat V g) → Entry V → Type 0
+  IsJoined seats e = (k : ℕ) × (s : ListSeat V g) × (get_elem? seats k ≡ some s) × ((hand_of s).linked ≡ true) × IsOwn (hand_of s) e
+
+  -- these are the linked entries of a list that was closed with all its seats, oldest first
+  pub record AreLinked (list : ArenaList V) (seats : List (ListSeat V g)) (es : List (Entry V)) : Type 0 where
+    -- each is that of a seat, or of a caller that has none
+    pub known : (e : Entry V) → IsAmong es e → IsJoined seats e ⊎ IsAmong list.others.items e
+    -- and none of these is missing
+    pub joined : (e : Entry V) → IsJoined seats e → IsAmong es e
+    pub others : (e : Entry V) → IsAmong list.others.items e → IsAmong es e
+    pub callers : Differ (map caller es)
+    pub slots : Differ (map slot es)
+    -- what a seat had seen begins the list, and so do the nodes that it was made with
+    pub seen : (k : ℕ) (s : ListSeat V g) → get_elem? seats k ≡ some s → Begins (view s).seen (map node_of es)
+    pub founded : Begins (map node_of list.table.shared.key.linked.items) (map node_of es)

@@ -1,14 +1,14 @@
-//! What the closing of a list will stand on: all seats joined into one, and the values taken out of their slots.
-//! Nothing calls it yet.
-ghost use Rattle.std.specs.Prelude.{◌≡◌, ℕ, ◌+◌, ◌<◌, ◌≤◌, ◌++◌, ◌∷◌, [], false, length, map, reverse, slice_index_or, vec_capacity, IfOk, None};
+//! A list is closed: all seats are joined into one, and each value goes from its slot to its entry.
+ghost use Rattle.std.specs.Prelude.{◌≡◌, ℕ, ◌+◌, ◌<◌, ◌≤◌, ◌++◌, ◌∷◌, [], false, length, map, reverse, slice_index_or, vec_capacity, IfOk, IfErr, None};
 ghost use Rattle.std.specs.Slots.{slots_items, slots_filled, slots_len, IsFull};
 ghost use mathlib.Core.Option.{some};
 ghost use lib.ListN.{get_elem?};
 ghost use Rattle.arena_list.specs.Seats.{view};
-ghost use Rattle.arena_list.specs.Closed.{HasTold, Rested, hand_of, slots_of};
+ghost use Rattle.arena_list.specs.Closed.{HasTold, Rested, AreAll, AreLinked, hand_of, slots_of, spares_of};
 
+use crate::collect::{place_others, pull_linked, pull_spares};
 use crate::entry::Entry;
-use crate::list::{ListSeat, Words};
+use crate::list::{ArenaList, ListSeat, Words};
 use crate::plays::Gather;
 use crate::view::View;
 use arena_mem::{NoMemory, Part};
@@ -117,4 +117,39 @@ fn free_parts<V: Part>(mut parts: Vec<Option<V>>)
         let None = part else { unreachable!() };
     }
     parts.destroy_empty();
+}
+
+impl<V: Part> ArenaList<V> {
+    /// The linked entries, oldest first, and the spare ones, in the order of the seats, each with its value. All seats
+    /// that `make` gave come back, and none has its slot out. Want of memory hands everything back.
+    pub fn close(
+        self,
+        alloc: Global,
+        seats: Vec<ListSeat<V>>,
+    ) -> Result<(Vec<Entry<V>>, Vec<Entry<V>>), (NoMemory, ArenaList<V>, Vec<ListSeat<V>>)>
+        requires { AreAll self seats.items }
+        ensures linked { IfOk result (λ r. AreLinked self seats.items r.0.items) }
+        ensures spares { IfOk result (λ r. r.1.items ≡ spares_of (map hand_of seats.items)) }
+        ensures refused { IfErr result (λ e. (e.1 ≡ self) × (e.2.items ≡ seats.items)) }
+    {
+        let Ok(rooms) = make_rooms(alloc, seats.len()) else {
+            return Err((NoMemory, self, seats));
+        };
+        let Rooms {
+            mut linked,
+            mut spare,
+            mut spare_slots,
+            mut parts,
+        } = rooms;
+        let ArenaList { table, others } = self;
+        let all = gather(&table.shared, seats, &mut spare_slots);
+        let mut closed = table.close_with(all);
+        empty(&mut closed, &mut parts);
+        place_others(&mut parts, others);
+        pull_linked(&closed, &mut parts, &mut linked);
+        pull_spares(spare_slots, &mut parts, &mut spare);
+        free_parts(parts);
+        closed.free();
+        Ok((linked, spare))
+    }
 }

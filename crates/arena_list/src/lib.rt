@@ -6,6 +6,7 @@
 #![tactic(auto)]
 
 mod close;
+mod collect;
 mod entry;
 mod founding;
 mod laws;

@@ -1,0 +1,87 @@
+use Rattle.std.proofs.Common.{◌≡◌, length, map, reverse, sym, ap, subst, refl, ◌∙◌, arith}
+use Rattle.std.proofs.lemmas.List.{length-reverse}
+use Rattle.std.specs.Slots.{slots_items, slots_len, IsFull}
+use Rattle.arena_list.specs.Founded.{meter}
+use Rattle.arena_list.specs.Closed.{AreLinked, hand_of, slots_of, spares_of}
+use Rattle.arena_list.proofs.Ending.{slots_within, slots_are, others_vacant, final_entries, final_stored, final_linked, final_spares, final_none}
+use Rattle.arena_list.proofs.list.ArenaList.close.Goals as goal
+
+pub gather-all-requires-clause-rested : goal.gather-all-requires-clause-rested
+gather-all-requires-clause-rested g c = λ k s a. (c.requires.each k s a).1
+
+pub place_others-requires-clause-vacant : goal.place_others-requires-clause-vacant
+place_others-requires-clause-vacant g c = others_vacant (meter g.V.Part.owner_of g.V.Part.life_of g.V.Part.used_of) c.args.self.table.shared.key c.gather-all.result.id c.gather-all.result.me.0 (slots_items c.close_with-closed.result.words) (slots_items c.close_with-closed.result.slots) c.empty.new.parts.items c.args.seats.items
+    c.close_with-closed.ensures.values.2 c.empty.ensures.parts c.empty.ensures.count c.gather-all.ensures.hands c.requires.count (λ i t a. (c.requires.each i t a).1) c.args.self.others.items c.args.self.kept
+
+pub pull_linked-requires-clause-words : goal.pull_linked-requires-clause-words
+pull_linked-requires-clause-words g c = subst (λ w. IsFull w × (slots_len w ≡ 592)) (sym c.empty.ensures.words) (c.close_with-closed.ensures.values.0, c.close_with-closed.ensures.counts.0 ∙ c.args.self.sized.0)
+
+pub pull_linked-requires-clause-stored : goal.pull_linked-requires-clause-stored
+pull_linked-requires-clause-stored g c = (
+  final_entries (meter g.V.Part.owner_of g.V.Part.life_of g.V.Part.used_of) c.args.self.table.shared.key c.gather-all.result.id c.gather-all.result.me.0 (slots_items c.close_with-closed.result.words) (slots_items c.close_with-closed.result.slots) c.empty.new.parts.items c.args.seats.items
+      c.close_with-closed.ensures.values.2 c.empty.ensures.parts c.empty.ensures.count c.gather-all.ensures.hands c.requires.count (λ i t a. (c.requires.each i t a).1)
+      c.place_others.new.parts.items c.args.self.others.items c.args.self.kept c.place_others.ensures,
+  final_stored (meter g.V.Part.owner_of g.V.Part.life_of g.V.Part.used_of) c.args.self.table.shared.key c.gather-all.result.id c.gather-all.result.me.0 (slots_items c.close_with-closed.result.words) (slots_items c.close_with-closed.result.slots) c.empty.new.parts.items c.args.seats.items
+      c.close_with-closed.ensures.values.2 c.empty.ensures.parts c.empty.ensures.count c.gather-all.ensures.hands c.requires.count (λ i t a. (c.requires.each i t a).1)
+      c.place_others.new.parts.items c.args.self.others.items c.args.self.kept c.place_others.ensures (slots_items c.empty.new.closed.words) (ap slots_items c.empty.ensures.words),
+)
+
+pub pull_spares-requires-clause-values : goal.pull_spares-requires-clause-values
+pull_spares-requires-clause-values g c = let es = final_entries (meter g.V.Part.owner_of g.V.Part.life_of g.V.Part.used_of) c.args.self.table.shared.key c.gather-all.result.id c.gather-all.result.me.0 (slots_items c.close_with-closed.result.words) (slots_items c.close_with-closed.result.slots) c.empty.new.parts.items c.args.seats.items
+    c.close_with-closed.ensures.values.2 c.empty.ensures.parts c.empty.ensures.count c.gather-all.ensures.hands c.requires.count (λ i t a. (c.requires.each i t a).1)
+    c.place_others.new.parts.items c.args.self.others.items c.args.self.kept c.place_others.ensures in
+    let st = final_stored (meter g.V.Part.owner_of g.V.Part.life_of g.V.Part.used_of) c.args.self.table.shared.key c.gather-all.result.id c.gather-all.result.me.0 (slots_items c.close_with-closed.result.words) (slots_items c.close_with-closed.result.slots) c.empty.new.parts.items c.args.seats.items
+    c.close_with-closed.ensures.values.2 c.empty.ensures.parts c.empty.ensures.count c.gather-all.ensures.hands c.requires.count (λ i t a. (c.requires.each i t a).1)
+    c.place_others.new.parts.items c.args.self.others.items c.args.self.kept c.place_others.ensures (slots_items c.empty.new.closed.words) (ap slots_items c.empty.ensures.words) in (
+      spares_of (map hand_of c.args.seats.items),
+      c.gather-all.ensures.slots ∙ ap reverse (slots_are c.args.seats.items (λ i t a. (c.requires.each i t a).1)),
+      final_spares (meter g.V.Part.owner_of g.V.Part.life_of g.V.Part.used_of) c.args.self.table.shared.key c.gather-all.result.id c.gather-all.result.me.0 (slots_items c.close_with-closed.result.words) (slots_items c.close_with-closed.result.slots) c.empty.new.parts.items c.args.seats.items
+          c.close_with-closed.ensures.values.2 c.empty.ensures.parts c.empty.ensures.count c.gather-all.ensures.hands c.requires.count (λ i t a. (c.requires.each i t a).1)
+          c.place_others.new.parts.items c.args.self.others.items c.args.self.kept c.place_others.ensures c.pull_linked.new.parts.items (c.pull_linked.ensures es st).1,
+    )
+
+pub pull_spares-requires-clause-room : goal.pull_spares-requires-clause-room
+pull_spares-requires-clause-room g c = (
+  c.in-Ok.ensures.empty.1,
+  (let a = ap length c.gather-all.ensures.slots ∙ length-reverse (slots_of c.args.seats.items) in let b = slots_within c.args.seats.items in let r = c.in-Ok.ensures.room.1 in let n = c.len.ensures in let o = c.args.seats.ok.0 in omega arith),
+)
+
+pub free_parts-requires : goal.free_parts-requires
+free_parts-requires g c = let es = final_entries (meter g.V.Part.owner_of g.V.Part.life_of g.V.Part.used_of) c.args.self.table.shared.key c.gather-all.result.id c.gather-all.result.me.0 (slots_items c.close_with-closed.result.words) (slots_items c.close_with-closed.result.slots) c.empty.new.parts.items c.args.seats.items
+    c.close_with-closed.ensures.values.2 c.empty.ensures.parts c.empty.ensures.count c.gather-all.ensures.hands c.requires.count (λ i t a. (c.requires.each i t a).1)
+    c.place_others.new.parts.items c.args.self.others.items c.args.self.kept c.place_others.ensures in
+    let st = final_stored (meter g.V.Part.owner_of g.V.Part.life_of g.V.Part.used_of) c.args.self.table.shared.key c.gather-all.result.id c.gather-all.result.me.0 (slots_items c.close_with-closed.result.words) (slots_items c.close_with-closed.result.slots) c.empty.new.parts.items c.args.seats.items
+    c.close_with-closed.ensures.values.2 c.empty.ensures.parts c.empty.ensures.count c.gather-all.ensures.hands c.requires.count (λ i t a. (c.requires.each i t a).1)
+    c.place_others.new.parts.items c.args.self.others.items c.args.self.kept c.place_others.ensures (slots_items c.empty.new.closed.words) (ap slots_items c.empty.ensures.words) in
+    let values = final_spares (meter g.V.Part.owner_of g.V.Part.life_of g.V.Part.used_of) c.args.self.table.shared.key c.gather-all.result.id c.gather-all.result.me.0 (slots_items c.close_with-closed.result.words) (slots_items c.close_with-closed.result.slots) c.empty.new.parts.items c.args.seats.items
+    c.close_with-closed.ensures.values.2 c.empty.ensures.parts c.empty.ensures.count c.gather-all.ensures.hands c.requires.count (λ i t a. (c.requires.each i t a).1)
+    c.place_others.new.parts.items c.args.self.others.items c.args.self.kept c.place_others.ensures c.pull_linked.new.parts.items (c.pull_linked.ensures es st).1 in
+    let slots = c.gather-all.ensures.slots ∙ ap reverse (slots_are c.args.seats.items (λ i t a. (c.requires.each i t a).1)) in
+    final_none (meter g.V.Part.owner_of g.V.Part.life_of g.V.Part.used_of) c.args.self.table.shared.key c.gather-all.result.id c.gather-all.result.me.0 (slots_items c.close_with-closed.result.words) (slots_items c.close_with-closed.result.slots) c.empty.new.parts.items c.args.seats.items
+    c.close_with-closed.ensures.values.2 c.empty.ensures.parts c.empty.ensures.count c.gather-all.ensures.hands c.requires.count (λ i t a. (c.requires.each i t a).1)
+    c.place_others.new.parts.items c.args.self.others.items c.args.self.kept c.place_others.ensures c.pull_linked.new.parts.items c.pull_spares.new.parts.items (c.pull_linked.ensures es st).1 (c.pull_spares.ensures (spares_of (map hand_of c.args.seats.items)) slots values).1
+
+pub returns-clause-linked : goal.returns-clause-linked
+returns-clause-linked g c = let es = final_entries (meter g.V.Part.owner_of g.V.Part.life_of g.V.Part.used_of) c.args.self.table.shared.key c.gather-all.result.id c.gather-all.result.me.0 (slots_items c.close_with-closed.result.words) (slots_items c.close_with-closed.result.slots) c.empty.new.parts.items c.args.seats.items
+    c.close_with-closed.ensures.values.2 c.empty.ensures.parts c.empty.ensures.count c.gather-all.ensures.hands c.requires.count (λ i t a. (c.requires.each i t a).1)
+    c.place_others.new.parts.items c.args.self.others.items c.args.self.kept c.place_others.ensures in
+    let st = final_stored (meter g.V.Part.owner_of g.V.Part.life_of g.V.Part.used_of) c.args.self.table.shared.key c.gather-all.result.id c.gather-all.result.me.0 (slots_items c.close_with-closed.result.words) (slots_items c.close_with-closed.result.slots) c.empty.new.parts.items c.args.seats.items
+    c.close_with-closed.ensures.values.2 c.empty.ensures.parts c.empty.ensures.count c.gather-all.ensures.hands c.requires.count (λ i t a. (c.requires.each i t a).1)
+    c.place_others.new.parts.items c.args.self.others.items c.args.self.kept c.place_others.ensures (slots_items c.empty.new.closed.words) (ap slots_items c.empty.ensures.words) in
+    subst (AreLinked c.args.self c.args.seats.items) (sym (c.pull_linked.ensures es st).0)
+    (final_linked (meter g.V.Part.owner_of g.V.Part.life_of g.V.Part.used_of) c.args.self.table.shared.key c.gather-all.result.id c.gather-all.result.me.0 (slots_items c.close_with-closed.result.words) (slots_items c.close_with-closed.result.slots) c.empty.new.parts.items c.args.seats.items
+    c.close_with-closed.ensures.values.2 c.empty.ensures.parts c.empty.ensures.count c.gather-all.ensures.hands c.requires.count (λ i t a. (c.requires.each i t a).1)
+    c.place_others.new.parts.items c.args.self.others.items c.args.self.kept c.place_others.ensures c.args.self refl c.args.self.kept c.gather-all.ensures.told)
+
+pub returns-clause-spares : goal.returns-clause-spares
+returns-clause-spares g c = let es = final_entries (meter g.V.Part.owner_of g.V.Part.life_of g.V.Part.used_of) c.args.self.table.shared.key c.gather-all.result.id c.gather-all.result.me.0 (slots_items c.close_with-closed.result.words) (slots_items c.close_with-closed.result.slots) c.empty.new.parts.items c.args.seats.items
+    c.close_with-closed.ensures.values.2 c.empty.ensures.parts c.empty.ensures.count c.gather-all.ensures.hands c.requires.count (λ i t a. (c.requires.each i t a).1)
+    c.place_others.new.parts.items c.args.self.others.items c.args.self.kept c.place_others.ensures in
+    let st = final_stored (meter g.V.Part.owner_of g.V.Part.life_of g.V.Part.used_of) c.args.self.table.shared.key c.gather-all.result.id c.gather-all.result.me.0 (slots_items c.close_with-closed.result.words) (slots_items c.close_with-closed.result.slots) c.empty.new.parts.items c.args.seats.items
+    c.close_with-closed.ensures.values.2 c.empty.ensures.parts c.empty.ensures.count c.gather-all.ensures.hands c.requires.count (λ i t a. (c.requires.each i t a).1)
+    c.place_others.new.parts.items c.args.self.others.items c.args.self.kept c.place_others.ensures (slots_items c.empty.new.closed.words) (ap slots_items c.empty.ensures.words) in
+    let values = final_spares (meter g.V.Part.owner_of g.V.Part.life_of g.V.Part.used_of) c.args.self.table.shared.key c.gather-all.result.id c.gather-all.result.me.0 (slots_items c.close_with-closed.result.words) (slots_items c.close_with-closed.result.slots) c.empty.new.parts.items c.args.seats.items
+    c.close_with-closed.ensures.values.2 c.empty.ensures.parts c.empty.ensures.count c.gather-all.ensures.hands c.requires.count (λ i t a. (c.requires.each i t a).1)
+    c.place_others.new.parts.items c.args.self.others.items c.args.self.kept c.place_others.ensures c.pull_linked.new.parts.items (c.pull_linked.ensures es st).1 in
+    let slots = c.gather-all.ensures.slots ∙ ap reverse (slots_are c.args.seats.items (λ i t a. (c.requires.each i t a).1)) in
+    (c.pull_spares.ensures (spares_of (map hand_of c.args.seats.items)) slots values).0
