@@ -15,6 +15,7 @@ use Rattle.arena_list.specs.Founded.{Meter, Differ, AreFit, Fits, has, slot, cal
 use Rattle.arena_list.specs.Made.{IsMadeOf, AreFirst}
 use Rattle.arena_list.specs.Views.{first_hand, who, out}
 use Rattle.arena_list.specs.Seats.{view, SameList, IsHome}
+use Rattle.arena_list.specs.Closed.{AreAll}
 use Rattle.arena_list.proofs.Lists.{at_below, at_there, at_end}
 use Rattle.arena_list.proofs.Seats.{at_append}
 use Rattle.arena_list.proofs.Opening.{has_at, entry_at}
@@ -135,3 +136,15 @@ module _ {V : Type 0} {g : Ghosts V} (m : Meter V) (list : ArenaList V) (s t : L
   -- a call that leaves the hands
   pub home_kept : IsHome m list s → IsHome m list t
   home_kept o = (same ∙ o.0, (o.1.0, ap (λ (h : List (Hand V)). (first_hand h).hold) is ∙ o.1.1, subst (λ (w : ℕ). Fits m list.table.shared.key.life w o.1.0) (ap (λ (h : List (Hand V)). (first_hand h).who) (sym is)) o.1.2))
+
+module _ {V : Type 0} {g : Ghosts V} (m : Meter V) where
+  -- what `close` asks
+  pub all_back : (list : ArenaList V) (seats : List (ListSeat V g)) → length seats ≡ length list.table.shared.key.callers.items → All (IsHome m list) seats → AreAll list seats
+  all_back list seats count home = record {
+    count = count;
+    each = λ k s at. let h : IsHome m list s = subst (IsHome m list) (sym (at_or seats k s s at)) (home k s (at_below seats k s at)) in (h.0, (h.1.0, h.1.1));
+  }
+
+  -- the same of what a refusal hands back
+  pub home_as : (list list' : ArenaList V) (seats seats' : List (ListSeat V g)) → list' ≡ list → seats' ≡ seats → All (IsHome m list) seats → All (IsHome m list') seats'
+  home_as list list' seats seats' p q home = subst (λ (z : ArenaList V × List (ListSeat V g)). All (IsHome m z.0) z.1) (λ i. (sym p i, sym q i)) home

@@ -72,11 +72,88 @@ fn made(
     requires { AreFit (meter (λ (c : Counter). c.owner) (λ (c : Counter). c.life) (λ (c : Counter). c.used)) 5 linked.items spare.items callers.now }
     ensures home { IfOk result (λ r. All (IsHome (meter (λ (c : Counter). c.owner) (λ (c : Counter). c.life) (λ (c : Counter). c.used)) r.0) r.1.items) }
     ensures count { IfOk result (λ r. length r.1.items ≡ length callers.now) }
+    ensures callers { IfOk result (λ r. length r.0.table.shared.key.callers.items ≡ length callers.now) }
 {
     match ArenaList::make(alloc, 5, linked, spare, callers) {
         Ok(made) => Ok(made),
         Err((no_memory, _, _)) => Err(no_memory.into()),
     }
+}
+
+/// The linked entries and the spare ones of a list that is closed, with ample memory.
+fn closed(
+    alloc: Global,
+    list: ArenaList<Counter>,
+    seats: Vec<ListSeat<Counter>>,
+) -> Result<(Vec<Entry<Counter>>, Vec<Entry<Counter>>), Fail>
+    requires count { length seats.items ≡ length list.table.shared.key.callers.items }
+    requires home { All (IsHome (meter (λ (c : Counter). c.owner) (λ (c : Counter). c.life) (λ (c : Counter). c.used)) list) seats.items }
+{
+    match list.close(alloc, seats) {
+        Ok(entries) => Ok(entries),
+        Err((no_memory, _, _)) => Err(no_memory.into()),
+    }
+}
+
+/// The same, where a first try that is refused is followed by one with what it handed back.
+fn made_again(
+    alloc: Global,
+    spare: Vec<Entry<Counter>>,
+    callers: &[u32],
+) -> Result<(ArenaList<Counter>, Vec<ListSeat<Counter>>), Fail>
+    requires { AreFit (meter (λ (c : Counter). c.owner) (λ (c : Counter). c.life) (λ (c : Counter). c.used)) 5 [] spare.items callers.now }
+    ensures home { IfOk result (λ r. All (IsHome (meter (λ (c : Counter). c.owner) (λ (c : Counter). c.life) (λ (c : Counter). c.used)) r.0) r.1.items) }
+    ensures count { IfOk result (λ r. length r.1.items ≡ length callers.now) }
+    ensures callers { IfOk result (λ r. length r.0.table.shared.key.callers.items ≡ length callers.now) }
+{
+    match ArenaList::make(alloc, 5, Vec::new(alloc), spare, callers) {
+        Ok(made) => Ok(made),
+        Err((_, linked, spare)) => made(alloc, linked, spare, callers),
+    }
+}
+
+/// The same of closing.
+fn closed_again(
+    alloc: Global,
+    list: ArenaList<Counter>,
+    seats: Vec<ListSeat<Counter>>,
+) -> Result<(Vec<Entry<Counter>>, Vec<Entry<Counter>>), Fail>
+    requires count { length seats.items ≡ length list.table.shared.key.callers.items }
+    requires home { All (IsHome (meter (λ (c : Counter). c.owner) (λ (c : Counter). c.life) (λ (c : Counter). c.used)) list) seats.items }
+{
+    match list.close(alloc, seats) {
+        Ok(entries) => Ok(entries),
+        Err((_, list, seats)) => closed(alloc, list, seats),
+    }
+}
+
+/// Whether the entries are these: the slot, the caller and the used sum of each.
+fn are(entries: &[Entry<Counter>], wanted: &[(u32, u32, u64)]) -> bool {
+    if entries.len() != wanted.len() {
+        return false;
+    }
+    for (at, entry) in entries.iter().enumerate() {
+        if (entry.slot, entry.caller, entry.part.used) != wanted[at] {
+            return false;
+        }
+    }
+    true
+}
+
+/// Whether one entry lies in this slot, with its caller and 24 bytes used.
+fn stands_once(entries: &[Entry<Counter>], slot: u32) -> bool
+    requires { slot < 64 }
+{
+    let mut is_found = false;
+    for entry in entries {
+        if entry.slot == slot {
+            if is_found || entry.caller != 4 + 3 * slot || entry.part.used != 24 {
+                return false;
+            }
+            is_found = true;
+        }
+    }
+    is_found
 }
 
 /// Finds the caller's slot, or else joins the list. Whether it joined, and the slot.
@@ -180,19 +257,24 @@ fn work_both<R: Threads + Sync>(
     );
 }
 
-/// Whether each of so many callers, all at work at the same time, joined with its own slot, and all their bytes are counted.
+/// Whether each of so many callers, all at work at the same time, joined with its own slot, all their bytes are counted,
+/// and the closed list has each caller once.
 fn side_by_side<R: Threads + Sync>(rt: &R, alloc: Global, count: u32) -> Result<bool, Fail>
     requires { (0 < count) × (count ≤ 64) }
 {
     let (spare, callers) = spares(alloc, count)?;
     let (list, mut seats) = made(alloc, Vec::new(alloc), spare, callers.as_slice())?;
-    let seats = seats.as_mut_slice();
-    work_all(rt, &list, seats);
-    let mut is_right = sizes(&list, seats, 0) == count as u128 * 24;
+    let slice = seats.as_mut_slice();
+    work_all(rt, &list, slice);
+    let mut is_right = sizes(&list, slice, 0) == count as u128 * 24;
     for slot in 0..count {
-        is_right &= come(&list, seats, slot as usize) == (false, slot);
+        is_right &= come(&list, slice, slot as usize) == (false, slot);
     }
-    Ok(is_right)
+    let (linked, spare) = closed(alloc, list, seats)?;
+    for slot in 0..count {
+        is_right &= stands_once(linked.as_slice(), slot);
+    }
+    Ok(is_right && linked.len() == count as usize && spare.is_empty())
 }
 
 #[test]
@@ -200,17 +282,20 @@ fn two_callers_join_and_one_fills_its_part(rt: HostRuntime) -> Result<(), Fail> 
     let (spare, callers) = spares(rt.alloc(), 2)?;
     let linked = Vec::new(rt.alloc());
     let (list, mut seats) = made(rt.alloc(), linked, spare, callers.as_slice())?;
-    let seats = seats.as_mut_slice();
-    assert_eq!(rt; come(&list, seats, 0), (true, 0));
-    assert_eq!(rt; come(&list, seats, 1), (true, 1));
-    assert_eq!(rt; work(&list, seats, 0), (false, 0));
-    assert_eq!(rt; sizes(&list, seats, 1), 24);
-    assert_eq!(rt; sizes(&list, seats, 0), 24);
+    let slice = seats.as_mut_slice();
+    assert_eq!(rt; come(&list, slice, 0), (true, 0));
+    assert_eq!(rt; come(&list, slice, 1), (true, 1));
+    assert_eq!(rt; work(&list, slice, 0), (false, 0));
+    assert_eq!(rt; sizes(&list, slice, 1), 24);
+    assert_eq!(rt; sizes(&list, slice, 0), 24);
+    let (linked, spare) = closed(rt.alloc(), list, seats)?;
+    assert!(rt; are(linked.as_slice(), &[(0, 4, 24), (1, 7, 0)]));
+    assert!(rt; spare.is_empty());
     Ok(())
 }
 
 #[test]
-fn a_linked_entry_without_a_seat_counts(rt: HostRuntime) -> Result<(), Fail> {
+fn a_linked_entry_without_a_seat_counts_and_comes_through(rt: HostRuntime) -> Result<(), Fail> {
     let (spare, callers) = spares(rt.alloc(), 3)?;
     let mut linked = Vec::new(rt.alloc());
     let part = Counter {
@@ -224,11 +309,14 @@ fn a_linked_entry_without_a_seat_counts(rt: HostRuntime) -> Result<(), Fail> {
         part,
     })?;
     let (list, mut seats) = made(rt.alloc(), linked, spare, callers.as_slice())?;
-    let seats = seats.as_mut_slice();
-    assert_eq!(rt; sizes(&list, seats, 2), 40);
-    assert_eq!(rt; work(&list, seats, 2), (true, 2));
-    assert_eq!(rt; work(&list, seats, 0), (true, 0));
-    assert_eq!(rt; sizes(&list, seats, 1), 88);
+    let slice = seats.as_mut_slice();
+    assert_eq!(rt; sizes(&list, slice, 2), 40);
+    assert_eq!(rt; work(&list, slice, 2), (true, 2));
+    assert_eq!(rt; work(&list, slice, 0), (true, 0));
+    assert_eq!(rt; sizes(&list, slice, 1), 88);
+    let (linked, spare) = closed(rt.alloc(), list, seats)?;
+    assert!(rt; are(linked.as_slice(), &[(9, 99, 40), (2, 10, 24), (0, 4, 24)]));
+    assert!(rt; are(spare.as_slice(), &[(1, 7, 0)]));
     Ok(())
 }
 
@@ -243,5 +331,17 @@ fn eight_seats_work_side_by_side(rt: HostRuntime) -> Result<(), Fail> {
 fn sixty_four_seats_work_side_by_side(rt: HostRuntime) -> Result<(), Fail> {
     let is_right = side_by_side(&rt, rt.alloc(), 64)?;
     assert!(rt; is_right);
+    Ok(())
+}
+
+#[test]
+fn a_refusal_hands_everything_back(rt: HostRuntime) -> Result<(), Fail> {
+    let (spare, callers) = spares(rt.alloc(), 3)?;
+    let (list, mut seats) = made_again(rt.alloc(), spare, callers.as_slice())?;
+    let slice = seats.as_mut_slice();
+    assert_eq!(rt; work(&list, slice, 1), (true, 1));
+    let (linked, spare) = closed_again(rt.alloc(), list, seats)?;
+    assert!(rt; are(linked.as_slice(), &[(1, 7, 24)]));
+    assert!(rt; are(spare.as_slice(), &[(0, 4, 0), (2, 10, 0)]));
     Ok(())
 }
