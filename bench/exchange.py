@@ -1,0 +1,104 @@
+#!/usr/bin/env python3
+"""Times a take and a give of a slot that the caller knows beside bench/exchange.c: bench/exchange.py [ROUNDS]
+
+On one thread and on four, each with a caller of its own. The rounds run in a copy of crates/, in the place of the one
+take and give with which arena_list's tests fill a part, and are proved and built there. The C program exchanges and
+stores as often, on words of its own that lie as far apart. Each prints the best of nine runs.
+"""
+import re
+import shutil
+import subprocess
+import sys
+import tempfile
+from pathlib import Path
+
+TOP = Path(__file__).resolve().parent.parent
+CRATES = ["no_memory", "arena_mem", "arena_list"]
+ONE_TURN = """    let mut part = list.take_slot(seat, slot);
+    if part.used < 1000 {
+        part.used += 24;
+    }
+    list.give_slot(seat, slot, part);
+"""
+TURNS = """    for _ in 0..ROUNDS {
+        let part = list.take_slot(seat, slot);
+        list.give_slot(seat, slot, part);
+    }
+"""
+INVARIANT = """use Rattle.std.proofs.Common.{◌≡◌, Some}
+use Rattle.arena_list.specs.declared.tests.Counter.{Counter}
+use Rattle.arena_list.specs.Founded.{meter}
+use Rattle.arena_list.specs.Views.{mine}
+use Rattle.arena_list.specs.Seats.{view, IsHome}
+use Rattle.arena_list.proofs.tests.fill.Given as goal
+
+abbrev pub invariant-loop : goal.invariant-loop
+invariant-loop l = IsHome (meter (λ (c : Counter). c.owner) (λ (c : Counter). c.life) (λ (c : Counter). c.used)) l.list l.seat × (mine (view l.seat) ≡ Some l.slot)
+"""
+TIMES = """
+use std::time::{Clock, Instant};
+
+fn time<R: Threads + Clock + Sync>(rt: &R, list: &ArenaList<Counter>, seats: &mut [ListSeat<Counter>]) -> Result<u64, Fail>
+    requires { AreHome (meter (λ (c : Counter). c.owner) (λ (c : Counter). c.life) (λ (c : Counter). c.used)) list.now (length seats.old) seats.old }
+    ensures { IfOk result (λ r. AreHome (meter (λ (c : Counter). c.owner) (λ (c : Counter). c.life) (λ (c : Counter). c.used)) list.now (length seats.old) seats.new) }
+{
+    let start = Instant::now(rt)?;
+    work_all(rt, list, seats);
+    Ok(u64::try_from(start.elapsed(rt)?.as_nanos()).unwrap_or(u64::MAX))
+}
+
+fn best_of<R: Threads + Clock + Sync>(rt: &R, alloc: Global, count: u32) -> Result<u64, Fail>
+    requires { (0 < count) × (count ≤ 64) }
+{
+    let mut best = u64::MAX;
+    for _ in 0..9 {
+        let (spare, callers) = spares(alloc, count)?;
+        let (list, mut seats) = made(alloc, Vec::new(alloc), spare, callers.as_slice())?;
+        best = best.min(time(rt, &list, seats.as_mut_slice())?);
+    }
+    Ok(best)
+}
+
+#[test]
+fn times(rt: HostRuntime) -> Result<(), Fail> {
+    let one = best_of(&rt, rt.alloc(), 1)?;
+    let four = best_of(&rt, rt.alloc(), 4)?;
+    println!(rt; "1 threads: {one}")?;
+    println!(rt; "4 threads: {four}")?;
+    Ok(())
+}
+"""
+
+
+def times(command, place=None):
+    done = subprocess.run(command, cwd=place, capture_output=True, text=True)
+    found = {int(threads): int(time) for threads, time in re.findall(r"(\d) threads: (\d+)", done.stdout)}
+    if set(found) != {1, 4}:
+        sys.exit(done.stdout + done.stderr)
+    return found
+
+
+def main(rounds="3000000"):
+    with tempfile.TemporaryDirectory() as folder:
+        plain, repository = f"{folder}/exchange", Path(folder, "repository")
+        subprocess.run(["cc", "-O2", "-pthread", "-o", plain, TOP / "bench/exchange.c"], check=True)
+        for crate in CRATES:
+            shutil.copytree(TOP / "crates" / crate, repository / "crates" / crate, ignore=shutil.ignore_patterns("out", "must-fail"))
+        lines = (TOP / "crates.txt").read_text().splitlines(True)
+        (repository / "crates.txt").write_text("".join(line for line in lines if line.split(":")[0] in CRATES))
+        shutil.copy(TOP / "HANDLES", repository)
+        crate = repository / "crates/arena_list"
+        text = (crate / "src/tests.rt").read_text()
+        assert text.count(ONE_TURN) == 1, "the tests of arena_list fill a part otherwise than this script knows"
+        text = text.replace(ONE_TURN, TURNS.replace("ROUNDS", rounds))
+        (crate / "src/tests.rt").write_text(text[: text.index("#[test]")] + TIMES)
+        (crate / "proofs/tests/fill").mkdir()
+        (crate / "proofs/tests/fill/Invariants.antt").write_text(INVARIANT)
+        ours, theirs = times(["rt", "test"], crate), times([plain, rounds])
+    for threads in 1, 4:
+        a, b = ours[threads] / int(rounds), theirs[threads] / int(rounds)
+        print(f"{threads} threads: a take and give {a:.1f} ns, in plain C {b:.1f} ns, ratio {a / b:.2f}")
+
+
+if __name__ == "__main__":
+    main(*sys.argv[1:])
