@@ -1,5 +1,5 @@
 -- What stands in the slots of a list that is closed, and the entries that come of it.
-use Rattle.std.proofs.Common.{◌≡◌, ◌≢◌, ◌⊎◌, ℕ, zero, suc, ◌+◌, ◌-◌, ◌≤◌, Bool, true, false, cond, List, [], ◌∷◌, ◌++◌, map, length, reverse, sym, refl, ap, subst, ◌∙◌, inl, inr, ⊎_elim, arith, Option, Some, None}
+use Rattle.std.proofs.Common.{◌≡◌, ◌≢◌, ◌⊎◌, ℕ, zero, suc, ◌+◌, ◌-◌, ◌<◌, ◌≤◌, Bool, true, false, cond, List, [], ◌∷◌, ◌++◌, map, length, reverse, sym, refl, ap, subst, ◌∙◌, inl, inr, ⊎_elim, arith, Option, Some, None}
 use Rattle.std.proofs.lemmas.Bool.{cases_Bool}
 use Rattle.std.proofs.lemmas.List.{length-reverse, reverse-append, reverse-reverse}
 use mathlib.Core.Option as maybe
@@ -18,15 +18,16 @@ use Rattle.arena_list.specs.declared.view.Hand.{Hand}
 use Rattle.arena_list.specs.declared.view.View.{View}
 use Rattle.arena_list.specs.Nodes.{node, before, head_of, node_word, slot_of, Begins}
 use Rattle.arena_list.specs.Views.{out}
-use Rattle.arena_list.specs.Founded.{Meter, Differ, slot, caller, node_of, others_of}
-use Rattle.arena_list.specs.Rule.{Holds, IsHand}
+use Rattle.arena_list.specs.Founded.{Meter, Fits, Differ, slot, caller, node_of, others_of}
+use Rattle.arena_list.specs.Rule.{Holds, HoldsAt, IsHand}
 use Rattle.arena_list.specs.Seats.{view}
-use Rattle.arena_list.specs.Closed.{HasTold, AreLinked, entry, place_of, own_entry, spares_of, slots_of, hand_of, IsAmong, IsOwn, IsJoined, Rested, AreIn, AreStored, Fills, Empties}
+use Rattle.arena_list.specs.Closed.{HasTold, AreLinked, AreApart, entry, place_of, own_entry, spares_of, slots_of, hand_of, IsAmong, IsOwn, IsJoined, Rested, AreIn, AreStored, Fills, Empties}
 use Rattle.arena_list.proofs.Lists.{at_below, at_there, at_one, at_more}
 use Rattle.arena_list.proofs.Few.{at_map, at_mapped, len_map, slots_differ, few_nodes}
 use Rattle.arena_list.proofs.Opening.{differ_cons}
 use Rattle.arena_list.proofs.Moved.{slot_tells, who_tells}
 use Rattle.arena_list.proofs.Seats.{at_append, at_behind, at_end_of}
+use Rattle.arena_list.proofs.Collecting.{once}
 use Rattle.arena_list.proofs.Closing.{stands_here, node_of_hand, hand_value}
 
 module _ {A : Type 0} where
@@ -76,8 +77,8 @@ module _ {V : Type 0} where
       (0, ap (λ (l : List (Entry V)). get_elem? l 0) (list ∙ ap (λ (l : List (Entry V)). l ++ spares_of hs) (own_is h part is)))
   spare_there (g ∷ hs) (suc j) h part at spare is = among_more g.linked (own_entry g) (spares_of hs) (entry h.slot h.who part) (spare_there hs j h part at spare is)
 
-  abbrev pub AreApart : List (Hand V) → Type 0
-  AreApart hs = (i j : ℕ) (h k : Hand V) → get_elem? hs i ≡ some h → get_elem? hs j ≡ some k → h.slot ≡ k.slot → i ≡ j
+  abbrev pub HaveSlots : List (Hand V) → Type 0
+  HaveSlots hs = (i j : ℕ) (h k : Hand V) → get_elem? hs i ≡ some h → get_elem? hs j ≡ some k → h.slot ≡ k.slot → i ≡ j
 
   spares_cons_apart : (b : Bool) (h : Hand V) (hs : List (Hand V)) → ((e f : Entry V) → IsAmong (own_entry h) e → IsAmong (spares_of hs) f → e.slot ≢ f.slot) → Differ (map slot (spares_of hs)) → Differ (map slot (cond b (spares_of hs) (own_entry h ++ spares_of hs)))
   spares_cons_apart true h hs other d = d
@@ -94,7 +95,7 @@ module _ {V : Type 0} where
       more = differ_cons h.slot (map slot (spares_of hs)) d new
 
   -- spare entries lie apart where the hands do
-  pub spares_apart : (hs : List (Hand V)) → AreApart hs → Differ (map slot (spares_of hs))
+  pub spares_apart : (hs : List (Hand V)) → HaveSlots hs → Differ (map slot (spares_of hs))
   spares_apart [] a = λ i j x p q. absurd (some-ne-none x (sym p))
   spares_apart (h ∷ hs) a = spares_cons_apart h.linked h hs
       (λ e f p q. λ same. let own = own_among h e p in let r = spare_from hs f q in let z = a 0 (suc r.0) h r.1 refl r.2 (sym own.0 ∙ same ∙ r.4.0) in omega arith)
@@ -154,7 +155,7 @@ module _ {V : Type 0} {g : Ghosts V} (m : Meter V) (k : Founding V) (s : State (
   is_hand : (i : ℕ) (t : ListSeat V g) → get_elem? seats i ≡ some t → IsHand m k.life r.core s.words s.homes r.holder r.place id (length seats - 1 - i) (hand_of t)
   is_hand i t a = (r.hands id (length seats - 1 - i) v (hand_of t) at (hand_at i t a)).1
 
-  seats_apart : AreApart (map hand_of seats)
+  seats_apart : HaveSlots (map hand_of seats)
   seats_apart i j h l a b same = let p = at_mapped hand_of seats i h a in let q = at_mapped hand_of seats j l b in
       let one : (hand_of p.0).slot ≡ (hand_of q.0).slot = ap (λ (h : Hand V). h.slot) p.2 ∙ same ∙ ap (λ (h : Hand V). h.slot) (sym q.2) in
       let x = is_hand i p.0 p.1 in let y = is_hand j q.0 q.1 in
@@ -243,8 +244,6 @@ module _ {V : Type 0} {g : Ghosts V} (m : Meter V) (k : Founding V) (s : State (
           among_as own.0 f.0 e f.1 (ap (λ (n : Node). n.slot) f.2 ∙ sym hand.0) (ap (λ (n : Node). n.caller) f.2 ∙ sym hand.1) (ap (get_elem? with_others) hand.0 ∙ seat_value t.0 t.1 e.part t.2 hand.2);
       others = λ e t. let ward = r.wards t.0 e (ap (λ (l : List (Entry V)). get_elem? l t.0) (sym others_are) ∙ t.1) in let f = entry_of_node ward.linked.0 (node e.slot e.caller) ward.linked.1 in
           among_as ward.linked.0 f.0 e f.1 (ap (λ (n : Node). n.slot) f.2) (ap (λ (n : Node). n.caller) f.2) (filled.here t.0 e (ap (λ (l : List (Entry V)). get_elem? l t.0) (sym others_are) ∙ t.1));
-      callers = callers_once;
-      slots = slots_once;
       seen = λ i t a. subst (Begins (view t).seen) (sym nodes_are) (⊎_elim
           (λ p. subst (λ (l : List Node). Begins l r.core.joined) p (r.known id v at).seen)
           (λ p. (r.known id v at).pasts p.0 (view t).seen p.1) (told i t a));
@@ -254,14 +253,69 @@ module _ {V : Type 0} {g : Ghosts V} (m : Meter V) (k : Founding V) (s : State (
       among_as i f e a slot_is caller_is there = let one : Some f.part ≡ Some e.part = at_one with_others e.slot (Some f.part) (Some e.part) (ap (get_elem? with_others) (sym slot_is) ∙ values_there i f a) there in let part_is : f.part ≡ e.part = cc in
           (i, a ∙ (λ x. some (entry (slot_is x) (caller_is x) (part_is x))))
 
+    -- ---- all entries, those of the list first
+    spare_seat : (i : ℕ) (e : Entry V) → get_elem? spares i ≡ some e → (j : ℕ) × (t : ListSeat V g) × (get_elem? seats j ≡ some t) × ((hand_of t).linked ≡ false) × IsOwn (hand_of t) e
+    spare_seat i e a = let t = spare_from (map hand_of seats) e (i, a) in let p = at_mapped hand_of seats t.0 t.1 t.2 in
+        (t.0, p.0, p.1, ap (λ (h : Hand V). h.linked) p.2 ∙ t.3, subst (λ (h : Hand V). IsOwn h e) (sym p.2) t.4)
+
+    own_fits : (i : ℕ) (t : ListSeat V g) (e : Entry V) → get_elem? seats i ≡ some t → IsOwn (hand_of t) e → Fits m k.life e.caller e.part
+    own_fits i t e a own = subst (λ (who : ℕ). Fits m k.life who e.part) (sym own.1) (subst (λ (x : Hold V). HoldsAt m k.life r.core s.homes (hand_of t) x) own.2 (is_hand i t a).hold).2
+
+    -- a slot is one of 64 and its caller's, and its part fits
+    IsSound : Entry V → Type 0
+    IsSound e = (e.slot < 64) × (r.holder e.slot ≡ some e.caller) × Fits m k.life e.caller e.part
+
+    linked_sound : (i : ℕ) (e : Entry V) → get_elem? linked_entries i ≡ some e → IsSound e
+    unfolding IsSound
+    linked_sound i e a = let n = joined_at i e a in let l = r.listed i (node_of e) n in (
+      l.slot,
+      l.held,
+      ⊎_elim
+          (λ t. own_fits t.0 t.1 e t.2 t.4) (λ t. (r.wards t.0 e t.1).fits) (node_tells i (node_of e) e.part n (values_there i e a)),
+    )
+
+    spare_sound : (i : ℕ) (e : Entry V) → get_elem? spares i ≡ some e → IsSound e
+    unfolding IsSound
+    spare_sound i e a = let t = spare_seat i e a in let own = is_hand t.0 t.1 t.2 in let is = t.4 in
+        (subst (λ (n : ℕ). n < 64) (sym is.0) own.slot, ap r.holder is.0 ∙ own.held ∙ ap (λ (n : ℕ). some n) (sym is.1), own_fits t.0 t.1 e t.2 t.4)
+
+    all_sound : (i : ℕ) (e : Entry V) → get_elem? (linked_entries ++ spares) i ≡ some e → IsSound e
+    all_sound i e a = ⊎_elim (λ t. linked_sound i e t) (λ t. spare_sound t.0 e t.2) (at_append linked_entries spares i e a)
+
+    -- a caller's node is of no spare entry
+    linked_other : (i j : ℕ) (e f : Entry V) → get_elem? linked_entries i ≡ some e → get_elem? spares j ≡ some f → e.caller ≢ f.caller
+    linked_other i j e f a b = λ same. let t = spare_seat j f b in let is = t.4 in (is_hand t.0 t.1 t.2).spare t.3 i (node_of e) (joined_at i e a) (same ∙ is.1)
+
+    spare_once : (i j : ℕ) (e f : Entry V) → get_elem? spares i ≡ some e → get_elem? spares j ≡ some f → e.caller ≡ f.caller → i ≡ j
+    spare_once i j e f a b same = let t = spare_seat i e a in let u = spare_seat j f b in let is = t.4 in let also = u.4 in
+        let places = who_tells m k s r id (length seats - 1 - t.0) id (length seats - 1 - u.0) (hand_of t.1) (hand_of u.1) (is_hand t.0 t.1 t.2) (is_hand u.0 u.1 u.2) (sym is.1 ∙ same ∙ also.1) in
+        let at_same : t.0 ≡ u.0 = (let p = places.1 in let x = at_below seats t.0 t.1 t.2 in let y = at_below seats u.0 u.1 u.2 in omega arith) in
+        let one : t.1 ≡ u.1 = at_one seats t.0 t.1 u.1 t.2 (ap (get_elem? seats) at_same ∙ u.2) in
+        once spares (spares_apart (map hand_of seats) seats_apart) i j e f a b (is.0 ∙ ap (λ (x : ListSeat V g). (hand_of x).slot) one ∙ sym also.0)
+
+    caller_once : (i j : ℕ) (e f : Entry V) → get_elem? (linked_entries ++ spares) i ≡ some e → get_elem? (linked_entries ++ spares) j ≡ some f → e.caller ≡ f.caller → i ≡ j
+    caller_once i j e f a b same = ⊎_elim
+        (λ x. ⊎_elim (λ y. callers_once i j f.caller (at_map caller linked_entries i e x ∙ ap (λ (n : ℕ). some n) same) (at_map caller linked_entries j f y)) (λ y. absurd (linked_other i y.0 e f x y.2 same)) (at_append linked_entries spares j f b))
+        (λ x. ⊎_elim (λ y. absurd (linked_other j x.0 f e y x.2 (sym same))) (λ y. x.1 ∙ ap (λ (n : ℕ). length linked_entries + n) (spare_once x.0 y.0 e f x.2 y.2 same) ∙ sym y.1) (at_append linked_entries spares j f b))
+        (at_append linked_entries spares i e a)
+
+    pub are_apart : AreApart m k.life (linked_entries ++ spares)
+    unfolding IsSound
+    are_apart = record {
+      slots = λ i j x a b. let p = at_mapped slot (linked_entries ++ spares) i x a in let q = at_mapped slot (linked_entries ++ spares) j x b in
+          let same : p.0.caller ≡ q.0.caller = some-injective _ _ (sym (all_sound i p.0 p.1).1 ∙ ap r.holder (p.2 ∙ sym q.2) ∙ (all_sound j q.0 q.1).1) in caller_once i j p.0 q.0 p.1 q.1 same;
+      callers = λ i j x a b. let p = at_mapped caller (linked_entries ++ spares) i x a in let q = at_mapped caller (linked_entries ++ spares) j x b in caller_once i j p.0 q.0 p.1 q.1 (p.2 ∙ sym q.2);
+      small = λ i e a. (all_sound i e a).0;
+      parts = λ i e a. (all_sound i e a).2;
+    }
+
     -- ---- the spare entries
     module _ (without_linked : List (Option V)) (emptied : Empties with_others without_linked linked_entries) where
       pub spares_in : AreIn without_linked spares
       spares_in = record {
         apart = spares_apart (map hand_of seats) seats_apart;
-        there = λ i e a. let t = spare_from (map hand_of seats) e (i, a) in let p = at_mapped hand_of seats t.0 t.1 t.2 in
-            let own : IsOwn (hand_of p.0) e = subst (λ (h : Hand V). IsOwn h e) (sym p.2) t.4 in let spare : (hand_of p.0).linked ≡ false = ap (λ (h : Hand V). h.linked) p.2 ∙ t.3 in
-            emptied.rest e.slot (λ j f b. λ same. node_apart j (node_of f) (joined_at j f b) t.0 p.0 p.1 spare (same ∙ own.0)) ∙ ap (get_elem? with_others) own.0 ∙ seat_value t.0 p.0 e.part p.1 own.2;
+        there = λ i e a. let t = spare_seat i e a in let own = t.4 in
+            emptied.rest e.slot (λ j f b. λ same. node_apart j (node_of f) (joined_at j f b) t.0 t.1 t.2 t.3 (same ∙ own.0)) ∙ ap (get_elem? with_others) own.0 ∙ seat_value t.0 t.1 e.part t.2 own.2;
       }
 
       module _ (left : List (Option V)) (gone : Empties without_linked left spares) where
@@ -324,6 +378,10 @@ module _ {V : Type 0} {g : Ghosts V} (m : Meter V) (k : Founding V) (id : ℕ) (
     pub final_linked : (list : ArenaList V) → list.table.shared.key ≡ k → list.others.items ≡ others_of k.linked.items k.callers.items → (told : (i : ℕ) (t : ListSeat V g) → get_elem? seats i ≡ some t → HasTold v (view t).seen) → AreLinked list seats final_entries
     unfolding final_entries
     final_linked = are_linked m k state rule id v final.1.1 seats hands count rested parts filled kept fills'
+
+    pub final_apart : AreApart m k.life (final_entries ++ spares_of (map hand_of seats))
+    unfolding final_entries
+    final_apart = are_apart m k state rule id v final.1.1 seats hands count rested parts filled kept fills'
 
     pub final_spares : (without_linked : List (Option V)) → Empties filled without_linked final_entries → AreIn without_linked (spares_of (map hand_of seats))
     unfolding final_entries

@@ -13,7 +13,7 @@ use Rattle.arena_list.specs.declared.view.Hand.{Hand}
 use Rattle.arena_list.specs.declared.view.View.{View}
 use Rattle.arena_list.specs.Nodes.{before, head_of, node_word, Begins}
 use Rattle.arena_list.specs.Words.{node_at}
-use Rattle.arena_list.specs.Founded.{Differ, slot, caller, node_of}
+use Rattle.arena_list.specs.Founded.{Meter, Fits, Differ, slot, caller, node_of}
 use Rattle.arena_list.specs.Views.{hand, out}
 use Rattle.arena_list.specs.Seats.{view, IsSeatOf}
 
@@ -46,6 +46,13 @@ module _ {V : Type 0} where
   abbrev pub spares_of : List (Hand V) → List (Entry V)
   spares_of [] = []
   spares_of (h ∷ hs) = if h.linked then spares_of hs else (own_entry h ++ spares_of hs)
+
+  -- each entry has a slot and a caller of its own, and its part fits
+  pub record AreApart (m : Meter V) (life : ℕ) (es : List (Entry V)) : Type 0 where
+    pub slots : Differ (map slot es)
+    pub callers : Differ (map caller es)
+    pub small : (i : ℕ) (e : Entry V) → get_elem? es i ≡ some e → e.slot < 64
+    pub parts : (i : ℕ) (e : Entry V) → get_elem? es i ≡ some e → Fits m life e.caller e.part
 
   -- ---- values in the slots of a closed list
   -- each entry's value is in the entry's slot, and the slots differ
@@ -106,8 +113,6 @@ module _ {V : Type 0} {g : Ghosts V} where
     -- and none of these is missing
     pub joined : (e : Entry V) → IsJoined seats e → IsAmong es e
     pub others : (e : Entry V) → IsAmong list.others.items e → IsAmong es e
-    pub callers : Differ (map caller es)
-    pub slots : Differ (map slot es)
     -- what a seat had seen begins the list, and so do the nodes that it was made with
     pub seen : (k : ℕ) (s : ListSeat V g) → get_elem? seats k ≡ some s → Begins (view s).seen (map node_of es)
     pub founded : Begins (map node_of list.table.shared.key.linked.items) (map node_of es)

@@ -3,8 +3,9 @@ ghost use Rattle.std.specs.Prelude.{◌≡◌, ℕ, ◌+◌, ◌<◌, ◌≤◌,
 ghost use Rattle.std.specs.Slots.{slots_items, slots_filled, slots_len, IsFull};
 ghost use mathlib.Core.Option.{some};
 ghost use lib.ListN.{get_elem?};
+ghost use Rattle.arena_list.specs.Founded.{meter};
 ghost use Rattle.arena_list.specs.Seats.{view};
-ghost use Rattle.arena_list.specs.Closed.{HasTold, Rested, AreAll, AreLinked, hand_of, slots_of, spares_of};
+ghost use Rattle.arena_list.specs.Closed.{HasTold, Rested, AreAll, AreApart, AreLinked, hand_of, slots_of, spares_of};
 
 use crate::collect::{place_others, pull_linked, pull_spares};
 use crate::entry::Entry;
@@ -130,6 +131,7 @@ impl<V: Part> ArenaList<V> {
         requires { AreAll self seats.items }
         ensures linked { IfOk result (λ r. AreLinked self seats.items r.0.items) }
         ensures spares { IfOk result (λ r. r.1.items ≡ spares_of (map hand_of seats.items)) }
+        ensures apart { IfOk result (λ r. AreApart (meter V.owner_of V.life_of V.used_of) self.table.shared.key.life (r.0.items ++ r.1.items)) }
         ensures refused { IfErr result (λ e. (e.1 ≡ self) × (e.2.items ≡ seats.items)) }
     {
         let Ok(rooms) = make_rooms(alloc, seats.len()) else {

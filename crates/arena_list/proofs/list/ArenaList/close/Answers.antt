@@ -1,9 +1,9 @@
-use Rattle.std.proofs.Common.{◌≡◌, length, map, reverse, sym, ap, subst, refl, ◌∙◌, arith}
+use Rattle.std.proofs.Common.{◌++◌, ◌≡◌, length, map, reverse, sym, ap, subst, refl, ◌∙◌, arith}
 use Rattle.std.proofs.lemmas.List.{length-reverse}
 use Rattle.std.specs.Slots.{slots_items, slots_len, IsFull}
 use Rattle.arena_list.specs.Founded.{meter}
-use Rattle.arena_list.specs.Closed.{AreLinked, hand_of, slots_of, spares_of}
-use Rattle.arena_list.proofs.Ending.{slots_within, slots_are, others_vacant, final_entries, final_stored, final_linked, final_spares, final_none}
+use Rattle.arena_list.specs.Closed.{AreApart, AreLinked, hand_of, slots_of, spares_of}
+use Rattle.arena_list.proofs.Ending.{slots_within, slots_are, others_vacant, final_entries, final_stored, final_linked, final_spares, final_none, final_apart}
 use Rattle.arena_list.proofs.list.ArenaList.close.Goals as goal
 
 pub gather-all-requires-clause-rested : goal.gather-all-requires-clause-rested
@@ -85,3 +85,20 @@ returns-clause-spares g c = let es = final_entries (meter g.V.Part.owner_of g.V.
     c.place_others.new.parts.items c.args.self.others.items c.args.self.kept c.place_others.ensures c.pull_linked.new.parts.items (c.pull_linked.ensures es st).1 in
     let slots = c.gather-all.ensures.slots ∙ ap reverse (slots_are c.args.seats.items (λ i t a. (c.requires.each i t a).1)) in
     (c.pull_spares.ensures (spares_of (map hand_of c.args.seats.items)) slots values).0
+
+pub returns-clause-apart : goal.returns-clause-apart
+returns-clause-apart g c = let es = final_entries (meter g.V.Part.owner_of g.V.Part.life_of g.V.Part.used_of) c.args.self.table.shared.key c.gather-all.result.id c.gather-all.result.me.0 (slots_items c.close_with-closed.result.words) (slots_items c.close_with-closed.result.slots) c.empty.new.parts.items c.args.seats.items
+    c.close_with-closed.ensures.values.2 c.empty.ensures.parts c.empty.ensures.count c.gather-all.ensures.hands c.requires.count (λ i t a. (c.requires.each i t a).1)
+    c.place_others.new.parts.items c.args.self.others.items c.args.self.kept c.place_others.ensures in
+    let st = final_stored (meter g.V.Part.owner_of g.V.Part.life_of g.V.Part.used_of) c.args.self.table.shared.key c.gather-all.result.id c.gather-all.result.me.0 (slots_items c.close_with-closed.result.words) (slots_items c.close_with-closed.result.slots) c.empty.new.parts.items c.args.seats.items
+    c.close_with-closed.ensures.values.2 c.empty.ensures.parts c.empty.ensures.count c.gather-all.ensures.hands c.requires.count (λ i t a. (c.requires.each i t a).1)
+    c.place_others.new.parts.items c.args.self.others.items c.args.self.kept c.place_others.ensures (slots_items c.empty.new.closed.words) (ap slots_items c.empty.ensures.words) in
+    let values = final_spares (meter g.V.Part.owner_of g.V.Part.life_of g.V.Part.used_of) c.args.self.table.shared.key c.gather-all.result.id c.gather-all.result.me.0 (slots_items c.close_with-closed.result.words) (slots_items c.close_with-closed.result.slots) c.empty.new.parts.items c.args.seats.items
+    c.close_with-closed.ensures.values.2 c.empty.ensures.parts c.empty.ensures.count c.gather-all.ensures.hands c.requires.count (λ i t a. (c.requires.each i t a).1)
+    c.place_others.new.parts.items c.args.self.others.items c.args.self.kept c.place_others.ensures c.pull_linked.new.parts.items (c.pull_linked.ensures es st).1 in
+    let slots = c.gather-all.ensures.slots ∙ ap reverse (slots_are c.args.seats.items (λ i t a. (c.requires.each i t a).1)) in
+    let linked_is = (c.pull_linked.ensures es st).0 in let spare_is = (c.pull_spares.ensures (spares_of (map hand_of c.args.seats.items)) slots values).0 in
+    subst (AreApart (meter g.V.Part.owner_of g.V.Part.life_of g.V.Part.used_of) c.args.self.table.shared.key.life) (λ i. sym linked_is i ++ sym spare_is i)
+    (final_apart (meter g.V.Part.owner_of g.V.Part.life_of g.V.Part.used_of) c.args.self.table.shared.key c.gather-all.result.id c.gather-all.result.me.0 (slots_items c.close_with-closed.result.words) (slots_items c.close_with-closed.result.slots) c.empty.new.parts.items c.args.seats.items
+    c.close_with-closed.ensures.values.2 c.empty.ensures.parts c.empty.ensures.count c.gather-all.ensures.hands c.requires.count (λ i t a. (c.requires.each i t a).1)
+    c.place_others.new.parts.items c.args.self.others.items c.args.self.kept c.place_others.ensures)
