@@ -21,7 +21,8 @@ use Rattle.arena_list.specs.Views.{out}
 use Rattle.arena_list.specs.Founded.{Meter, Fits, Differ, slot, caller, node_of, others_of}
 use Rattle.arena_list.specs.Rule.{Holds, HoldsAt, IsHand}
 use Rattle.arena_list.specs.Seats.{view}
-use Rattle.arena_list.specs.Closed.{HasTold, AreLinked, AreApart, entry, place_of, own_entry, spares_of, slots_of, hand_of, IsAmong, IsOwn, IsJoined, Rested, AreIn, AreStored, Fills, Empties}
+use Rattle.arena_list.specs.Closed.{HasTold, AreLinked, AreApart, entry, own_entry, spares_of, slots_of, hand_of, IsAmong, IsOwn, IsJoined, Rested}
+use Rattle.arena_list.specs.Collected.{place_of, AreIn, AreStored, Fills, Empties}
 use Rattle.arena_list.proofs.Lists.{at_below, at_there, at_one, at_more}
 use Rattle.arena_list.proofs.Few.{at_map, at_mapped, len_map, slots_differ, few_nodes}
 use Rattle.arena_list.proofs.Opening.{differ_cons}

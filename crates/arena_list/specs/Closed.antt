@@ -1,5 +1,5 @@
 -- What closing a list works with, and what it gives.
-use Rattle.std.specs.Prelude.{◌≡◌, ◌≢◌, ◌⊎◌, ℕ, ◌≤◌, ◌<◌, true, List, [], ◌∷◌, ◌++◌, Option, Some, None, length, map, slice_index, if◌then◌else◌}
+use Rattle.std.specs.Prelude.{◌≡◌, ◌⊎◌, ℕ, ◌<◌, true, List, [], ◌∷◌, ◌++◌, length, map, if◌then◌else◌}
 use mathlib.Core.Option.{some}
 use lib.ListN.{get_elem?}
 use Rattle.arena_mem.specs.declared.part.Part.{Ghosts}
@@ -11,8 +11,7 @@ use Rattle.arena_list.specs.declared.view.Hold.{Hold}
 use Rattle.arena_list.specs.declared.view.Hold.TheVariants.{Vacant, Filling, Away, Rests}
 use Rattle.arena_list.specs.declared.view.Hand.{Hand}
 use Rattle.arena_list.specs.declared.view.View.{View}
-use Rattle.arena_list.specs.Nodes.{before, head_of, node_word, Begins}
-use Rattle.arena_list.specs.Words.{node_at}
+use Rattle.arena_list.specs.Nodes.{Begins}
 use Rattle.arena_list.specs.Founded.{Meter, Fits, Differ, slot, caller, node_of}
 use Rattle.arena_list.specs.Views.{hand, out}
 use Rattle.arena_list.specs.Seats.{view, IsSeatOf}
@@ -53,36 +52,6 @@ module _ {V : Type 0} where
     pub callers : Differ (map caller es)
     pub small : (i : ℕ) (e : Entry V) → get_elem? es i ≡ some e → e.slot < 64
     pub parts : (i : ℕ) (e : Entry V) → get_elem? es i ≡ some e → Fits m life e.caller e.part
-
-  -- ---- values in the slots of a closed list
-  -- each entry's value is in the entry's slot, and the slots differ
-  pub record AreIn (parts : List (Option V)) (es : List (Entry V)) : Type 0 where
-    pub apart : Differ (map slot es)
-    pub there : (i : ℕ) (e : Entry V) → get_elem? es i ≡ some e → get_elem? parts e.slot ≡ some (Some e.part)
-
-  -- the words write these entries down, oldest first, and each one's value is in its slot
-  pub record AreStored (words : List ℕ) (parts : List (Option V)) (es : List (Entry V)) : Type 0 where
-    pub head : slice_index words 0 ≡ head_of (map node_of es)
-    pub nodes : (k : ℕ) (e : Entry V) → get_elem? es k ≡ some e → slice_index words (node_at e.slot) ≡ node_word e.caller (before (map node_of es) k)
-    pub small : (k : ℕ) (e : Entry V) → get_elem? es k ≡ some e → e.slot < 64
-    pub few : length es ≤ 64
-    pub values : AreIn parts es
-
-  -- these entries' values were put into their slots
-  pub record Fills (old new : List (Option V)) (es : List (Entry V)) : Type 0 where
-    pub here : (i : ℕ) (e : Entry V) → get_elem? es i ≡ some e → get_elem? new e.slot ≡ some (Some e.part)
-    pub only : (k : ℕ) (x : Option V) → get_elem? new k ≡ some x → (get_elem? old k ≡ some x) ⊎ ((i : ℕ) × (e : Entry V) × (get_elem? es i ≡ some e) × (e.slot ≡ k))
-    pub rest : (k : ℕ) → ((i : ℕ) (e : Entry V) → get_elem? es i ≡ some e → e.slot ≢ k) → get_elem? new k ≡ get_elem? old k
-
-  -- these entries' values were taken out of their slots
-  pub record Empties (old new : List (Option V)) (es : List (Entry V)) : Type 0 where
-    pub gone : (i : ℕ) (e : Entry V) → get_elem? es i ≡ some e → get_elem? new e.slot ≡ some None
-    pub only : (k : ℕ) (x : Option V) → get_elem? new k ≡ some x → (x ≡ None) ⊎ (get_elem? old k ≡ some x)
-    pub rest : (k : ℕ) → ((i : ℕ) (e : Entry V) → get_elem? es i ≡ some e → e.slot ≢ k) → get_elem? new k ≡ get_elem? old k
-
-  -- where an entry is, and whose
-  abbrev pub place_of : Entry V → ℕ × ℕ
-  place_of e = (e.slot, e.caller)
 
 module _ {V : Type 0} {g : Ghosts V} where
   abbrev pub hand_of : ListSeat V g → Hand V

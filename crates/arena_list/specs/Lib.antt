@@ -9,3 +9,4 @@ pub mod Calls
 pub mod Seats
 pub mod Made
 pub mod Closed
+pub mod Collected

@@ -4,7 +4,8 @@ ghost use Rattle.std.specs.Slots.{slots_items, slots_len, IsFull};
 ghost use mathlib.Core.Option.{some};
 ghost use lib.ListN.{get_elem?};
 ghost use Rattle.arena_list.specs.Founded.{slot, Differ};
-ghost use Rattle.arena_list.specs.Closed.{entry, place_of, AreIn, AreStored, Empties, Fills};
+ghost use Rattle.arena_list.specs.Closed.{entry};
+ghost use Rattle.arena_list.specs.Collected.{place_of, AreIn, AreStored, Empties, Fills};
 
 use crate::entry::Entry;
 use crate::steps::{HEAD, NODES, SPAN};

@@ -1,6 +1,6 @@
 use Rattle.std.proofs.Common.{◌≤◌, vec_capacity}
 use Rattle.std.specs.Slots.{slots_items}
-use Rattle.arena_list.specs.Closed.{AreStored}
+use Rattle.arena_list.specs.Collected.{AreStored}
 use Rattle.arena_list.proofs.Collecting.{IsTaking}
 use Rattle.arena_list.proofs.collect.pull_linked.Given as goal
 

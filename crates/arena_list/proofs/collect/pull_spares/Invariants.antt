@@ -1,5 +1,5 @@
 use Rattle.std.proofs.Common.{◌≡◌, ◌+◌, ◌≤◌, length, map, reverse, vec_capacity}
-use Rattle.arena_list.specs.Closed.{AreIn, place_of}
+use Rattle.arena_list.specs.Collected.{AreIn, place_of}
 use Rattle.arena_list.proofs.Collecting.{IsPulling}
 use Rattle.arena_list.proofs.collect.pull_spares.Given as goal
 

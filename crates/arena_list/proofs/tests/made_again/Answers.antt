@@ -1,4 +1,4 @@
-use Rattle.std.proofs.Common.{sym, subst, [], List}
+use Rattle.std.proofs.Common.{sym, subst, List}
 use Rattle.arena_list.specs.declared.tests.Counter.{Counter}
 use Rattle.arena_list.specs.declared.entry.Entry.{Entry}
 use Rattle.arena_list.specs.Founded.{meter, AreFit}
