@@ -2,6 +2,7 @@
 use Rattle.std.proofs.Common.{◌≡◌, ◌≢◌, ◌⊎◌, ℕ, zero, suc, ◌+◌, ◌-◌, ◌<◌, ◌≤◌, Bool, true, false, cond, List, [], ◌∷◌, ◌++◌, map, length, reverse, sym, refl, ap, subst, ◌∙◌, inl, inr, ⊎_elim, arith, Option, Some, None}
 use Rattle.std.proofs.lemmas.Bool.{cases_Bool}
 use Rattle.std.proofs.lemmas.List.{length-reverse, reverse-append, reverse-reverse}
+use Rattle.std.specs.Prelude.{slice_index}
 use mathlib.Core.Option as maybe
 use mathlib.Core.Option.{some, none, some-injective, some-ne-none}
 use lib.ListN.{get_elem?}
@@ -17,14 +18,16 @@ use Rattle.arena_list.specs.declared.view.Hold.TheVariants.{Vacant, Filling, Awa
 use Rattle.arena_list.specs.declared.view.Hand.{Hand}
 use Rattle.arena_list.specs.declared.view.View.{View}
 use Rattle.arena_list.specs.Nodes.{node, before, head_of, node_word, slot_of, Begins}
-use Rattle.arena_list.specs.Views.{out}
+use Rattle.arena_list.specs.Core.{Standing}
+use Rattle.arena_list.specs.Views.{out, shown, sum_seen}
 use Rattle.arena_list.specs.Founded.{Meter, Fits, Differ, slot, caller, node_of, others_of}
 use Rattle.arena_list.specs.Rule.{Holds, HoldsAt, IsHand}
 use Rattle.arena_list.specs.Seats.{view}
-use Rattle.arena_list.specs.Closed.{HasTold, AreLinked, AreApart, entry, own_entry, spares_of, slots_of, hand_of, IsAmong, IsOwn, IsJoined, Rested}
+use Rattle.arena_list.specs.Closed.{HasTold, AreAtMost, used_sum, AreLinked, AreApart, entry, own_entry, spares_of, slots_of, hand_of, IsAmong, IsOwn, IsJoined, Rested}
 use Rattle.arena_list.specs.Collected.{place_of, AreIn, AreStored, Fills, Empties}
 use Rattle.arena_list.proofs.Lists.{at_below, at_there, at_one, at_more}
 use Rattle.arena_list.proofs.Few.{at_map, at_mapped, len_map, slots_differ, few_nodes}
+use Rattle.arena_list.proofs.Sums.{sum_begins}
 use Rattle.arena_list.proofs.Opening.{differ_cons}
 use Rattle.arena_list.proofs.Moved.{slot_tells, who_tells}
 use Rattle.arena_list.proofs.Seats.{at_append, at_behind, at_end_of}
@@ -112,6 +115,11 @@ module _ {V : Type 0} where
             → (i : ℕ) (e : Entry V) → get_elem? (entry n.slot n.caller part ∷ es) i ≡ some e → get_elem? parts e.slot ≡ some (Some e.part)
         first n part is es all zero e at = subst (λ (x : Entry V). get_elem? parts x.slot ≡ some (Some x.part)) (some-injective (entry n.slot n.caller part) e at) is
         first n part is es all (suc i) e at = all i e at
+
+-- what was seen of slots is at most what their entries use
+sum_within : {V : Type 0} (m : Meter V) (sizes : List ℕ) (es : List (Entry V)) → ((i : ℕ) (e : Entry V) → get_elem? es i ≡ some e → slice_index sizes e.slot ≤ m.used e.part) → sum_seen sizes (map node_of es) ≤ used_sum m es
+sum_within m sizes [] h = omega arith
+sum_within m sizes (e ∷ es) h = let here = h 0 e refl in let rest = sum_within m sizes es (λ i. h (suc i)) in omega arith
 
 module _ {V : Type 0} {g : Ghosts V} where
   -- as many slots are noted as there are seats at most
@@ -238,6 +246,11 @@ module _ {V : Type 0} {g : Ghosts V} (m : Meter V) (k : Founding V) (s : State (
     }
 
     -- ---- what closing answers
+    seen_begins : ((i : ℕ) (t : ListSeat V g) → get_elem? seats i ≡ some t → HasTold v (view t).seen) → (i : ℕ) (t : ListSeat V g) → get_elem? seats i ≡ some t → Begins (view t).seen (map node_of linked_entries)
+    seen_begins told i t a = subst (Begins (view t).seen) (sym nodes_are) (⊎_elim
+        (λ p. subst (λ (l : List Node). Begins l r.core.joined) p (r.known id v at).seen)
+        (λ p. (r.known id v at).pasts p.0 (view t).seen p.1) (told i t a))
+
     pub are_linked : (list : ArenaList V) → list.table.shared.key ≡ k → list.others.items ≡ others → (told : (i : ℕ) (t : ListSeat V g) → get_elem? seats i ≡ some t → HasTold v (view t).seen) → AreLinked list seats linked_entries
     are_linked list key_is others_are told = record {
       known = λ e t. let n = joined_at t.0 e t.1 in ⊎_elim (λ p. inl p) (λ p. inr (p.0, ap (λ (l : List (Entry V)). get_elem? l p.0) others_are ∙ p.1)) (node_tells t.0 (node_of e) e.part n (values_there t.0 e t.1));
@@ -245,14 +258,26 @@ module _ {V : Type 0} {g : Ghosts V} (m : Meter V) (k : Founding V) (s : State (
           among_as own.0 f.0 e f.1 (ap (λ (n : Node). n.slot) f.2 ∙ sym hand.0) (ap (λ (n : Node). n.caller) f.2 ∙ sym hand.1) (ap (get_elem? with_others) hand.0 ∙ seat_value t.0 t.1 e.part t.2 hand.2);
       others = λ e t. let ward = r.wards t.0 e (ap (λ (l : List (Entry V)). get_elem? l t.0) (sym others_are) ∙ t.1) in let f = entry_of_node ward.linked.0 (node e.slot e.caller) ward.linked.1 in
           among_as ward.linked.0 f.0 e f.1 (ap (λ (n : Node). n.slot) f.2) (ap (λ (n : Node). n.caller) f.2) (filled.here t.0 e (ap (λ (l : List (Entry V)). get_elem? l t.0) (sym others_are) ∙ t.1));
-      seen = λ i t a. subst (Begins (view t).seen) (sym nodes_are) (⊎_elim
-          (λ p. subst (λ (l : List Node). Begins l r.core.joined) p (r.known id v at).seen)
-          (λ p. (r.known id v at).pasts p.0 (view t).seen p.1) (told i t a));
+      seen = seen_begins told;
       founded = subst (Begins (map node_of list.table.shared.key.linked.items)) (sym nodes_are) (subst (λ (f : Founding V). Begins (map node_of f.linked.items) r.core.joined) (sym key_is) r.started);
     } where
       among_as : (i : ℕ) (f e : Entry V) → get_elem? linked_entries i ≡ some f → f.slot ≡ e.slot → f.caller ≡ e.caller → get_elem? with_others e.slot ≡ some (Some e.part) → IsAmong linked_entries e
       among_as i f e a slot_is caller_is there = let one : Some f.part ≡ Some e.part = at_one with_others e.slot (Some f.part) (Some e.part) (ap (get_elem? with_others) (sym slot_is) ∙ values_there i f a) there in let part_is : f.part ≡ e.part = cc in
           (i, a ∙ (λ x. some (entry (slot_is x) (caller_is x) (part_is x))))
+
+    -- ---- what the entries use
+    used_now : (i : ℕ) (e : Entry V) → get_elem? linked_entries i ≡ some e → (r.core.standing e.slot).used ≡ m.used e.part
+    used_now i e a = ⊎_elim
+        (λ t. let own = t.4 in ap (λ (n : ℕ). (r.core.standing n).used) own.0 ∙ ap (λ (x : Standing). x.used) (subst (λ (x : Hold V). HoldsAt m k.life r.core s.homes (hand_of t.1) x) own.2 (is_hand t.0 t.1 t.2).hold).0)
+        (λ t. ap (λ (x : Standing). x.used) (r.wards t.0 e t.1).standing)
+        (node_tells i (node_of e) e.part (joined_at i e a) (values_there i e a))
+
+    pub are_used : ((i : ℕ) (t : ListSeat V g) → get_elem? seats i ≡ some t → HasTold v (view t).seen) → ((i : ℕ) (t : ListSeat V g) → get_elem? seats i ≡ some t → AreAtMost (view t).sizes v.sizes)
+        → (i : ℕ) (t : ListSeat V g) → get_elem? seats i ≡ some t → shown (view t) ≤ used_sum m linked_entries
+    are_used told sizes i t a = let knows = r.known id v at in
+        let begun = sum_begins (view t).sizes (view t).sizes (view t).seen (map node_of linked_entries) (seen_begins told i t a) (λ slot. omega arith) in
+        let all = sum_within m (view t).sizes linked_entries (λ j e b. let low : e.slot < length v.sizes = (let l = (r.listed j (node_of e) (joined_at j e b)).slot in let n = knows.room in omega arith) in
+        let p = sizes i t a e.slot low in let q = knows.sizes e.slot in let u = used_now j e b in omega arith) in omega arith
 
     -- ---- all entries, those of the list first
     spare_seat : (i : ℕ) (e : Entry V) → get_elem? spares i ≡ some e → (j : ℕ) × (t : ListSeat V g) × (get_elem? seats j ≡ some t) × ((hand_of t).linked ≡ false) × IsOwn (hand_of t) e
@@ -379,6 +404,11 @@ module _ {V : Type 0} {g : Ghosts V} (m : Meter V) (k : Founding V) (id : ℕ) (
     pub final_linked : (list : ArenaList V) → list.table.shared.key ≡ k → list.others.items ≡ others_of k.linked.items k.callers.items → (told : (i : ℕ) (t : ListSeat V g) → get_elem? seats i ≡ some t → HasTold v (view t).seen) → AreLinked list seats final_entries
     unfolding final_entries
     final_linked = are_linked m k state rule id v final.1.1 seats hands count rested parts filled kept fills'
+
+    pub final_used : ((i : ℕ) (t : ListSeat V g) → get_elem? seats i ≡ some t → HasTold v (view t).seen) → ((i : ℕ) (t : ListSeat V g) → get_elem? seats i ≡ some t → AreAtMost (view t).sizes v.sizes)
+        → (i : ℕ) (t : ListSeat V g) → get_elem? seats i ≡ some t → shown (view t) ≤ used_sum m final_entries
+    unfolding final_entries
+    final_used = are_used m k state rule id v final.1.1 seats hands count rested parts filled kept fills'
 
     pub final_apart : AreApart m k.life (final_entries ++ spares_of (map hand_of seats))
     unfolding final_entries

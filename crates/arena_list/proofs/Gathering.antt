@@ -1,5 +1,6 @@
 -- All seats of a list are joined into one.
 use Rattle.std.proofs.Common.{◌≡◌, ℕ, zero, suc, ◌+◌, ◌<◌, ◌≤◌, Bool, true, false, cond, List, [], ◌∷◌, ◌++◌, length, get_or, map, reverse, sym, refl, ap, subst, ◌∙◌, inl, inr, ⊎_elim, arith}
+use Rattle.std.specs.Prelude.{max, slice_index}
 use Rattle.std.proofs.lemmas.Bool.{false≢true}
 use Rattle.std.proofs.lemmas.List.{append_assoc, append-nil, length-append, reverse-append}
 use mathlib.Core.Option.{some, some-injective}
@@ -8,9 +9,9 @@ use Rattle.arena_mem.specs.declared.part.Part.{Ghosts}
 use Rattle.arena_list.specs.declared.list.ListSeat.{ListSeat}
 use Rattle.arena_list.specs.declared.view.Node.{Node}
 use Rattle.arena_list.specs.declared.view.View.{View}
-use Rattle.arena_list.specs.Steps.{Sat, both, carried_of}
+use Rattle.arena_list.specs.Steps.{Sat, both, carried_of, greater}
 use Rattle.arena_list.specs.Seats.{view}
-use Rattle.arena_list.specs.Closed.{HasTold, hand_of, Rested, slots_of}
+use Rattle.arena_list.specs.Closed.{AreAtMost, HasTold, hand_of, Rested, slots_of}
 use Rattle.arena_list.proofs.Lists.{at_only, at_more}
 use Rattle.arena_list.proofs.Seats.{at_end_of}
 use Rattle.arena_list.proofs.Keeps.{hands_are}
@@ -23,7 +24,14 @@ pub record IsGathering {V : Type 0} {g : Ghosts V} (start todo : List (ListSeat 
   pub some_hand : 0 < length me.0.hands
   pub free : me.1 ≡ []
   pub told : (k : ℕ) (s : ListSeat V g) → get_elem? gone k ≡ some s → HasTold me.0 (view s).seen
+  pub sizes : (k : ℕ) (s : ListSeat V g) → get_elem? gone k ≡ some s → AreAtMost (view s).sizes me.0.sizes
   pub slots : spares ≡ reverse (slots_of gone)
+
+greater_most : (xs ys : List ℕ) (i : ℕ) → i < length (greater xs ys) → (i < length xs) × (slice_index xs i ≤ slice_index (greater xs ys) i) × (slice_index ys i ≤ slice_index (greater xs ys) i)
+greater_most [] ys i h = absurd (omega arith)
+greater_most (x ∷ xs) [] i h = absurd (omega arith)
+greater_most (x ∷ xs) (y ∷ ys) zero h = ((let z : 0 < suc (length xs) = omega arith in z), (let z : x ≤ max x y = omega arith in z), (let z : y ≤ max x y = omega arith in z))
+greater_most (x ∷ xs) (y ∷ ys) (suc i) h = let r = greater_most xs ys i (omega arith) in let a = r.0 in ((let z : suc i < suc (length xs) = omega arith in z), r.1, r.2)
 
 module _ {V : Type 0} where
   told_both : (v w : View V) (nodes : List Node) → HasTold v nodes → HasTold (both v w) nodes
@@ -59,6 +67,7 @@ module _ {V : Type 0} {g : Ghosts V} where
     some_hand = (let o = s.seated.one in omega arith);
     free = carries_nothing s r;
     told = λ k t e. inl (ap (λ (x : ListSeat V g). (view x).seen) (at_only s t k e).1);
+    sizes = λ k t e. subst (λ (x : ListSeat V g). AreAtMost (view x).sizes s.seat.me.0.sizes) (at_only s t k e).1 (λ i low. omega arith);
     slots = slots ∙ slots_one s;
   }
 
@@ -70,11 +79,17 @@ module _ {V : Type 0} {g : Ghosts V} where
     some_hand = (let h = ap (λ (x : Sat V). length x.0.hands) after in let l : length (me.0.hands ++ s.seat.me.0.hands) ≡ length me.0.hands + length s.seat.me.0.hands = length-append me.0.hands s.seat.me.0.hands in let a = o.some_hand in omega arith);
     free = ap (λ (x : Sat V). x.1) after ∙ o.free;
     told = told_now;
+    sizes = sizes_now;
     slots = slots ∙ ap (λ (l : List (ℕ × ℕ)). l ++ slots_of (s ∷ [])) o.slots ∙ slots_more s o.gone;
   } where
     told_now : (k : ℕ) (t : ListSeat V g) → get_elem? (s ∷ o.gone) k ≡ some t → HasTold me'.0 (view t).seen
     told_now zero t e = subst (λ (x : Sat V). HasTold x.0 (view t).seen) (sym after) (inr (1, ap (λ (x : ListSeat V g). some (view x).seen) (some-injective s t e)))
     told_now (suc k) t e = subst (λ (x : Sat V). HasTold x.0 (view t).seen) (sym after) (told_both me.0 s.seat.me.0 (view t).seen (o.told k t e))
+
+    sizes_now : (k : ℕ) (t : ListSeat V g) → get_elem? (s ∷ o.gone) k ≡ some t → AreAtMost (view t).sizes me'.0.sizes
+    sizes_now zero t e = subst (λ (x : Sat V). AreAtMost (view t).sizes x.0.sizes) (sym after) (subst (λ (x : ListSeat V g). AreAtMost (view x).sizes (greater me.0.sizes s.seat.me.0.sizes)) (some-injective s t e) (λ i low. (greater_most me.0.sizes s.seat.me.0.sizes i low).2))
+    sizes_now (suc k) t e = subst (λ (x : Sat V). AreAtMost (view t).sizes x.0.sizes) (sym after)
+        (λ i low. let b = greater_most me.0.sizes s.seat.me.0.sizes i low in let a = o.sizes k t e i b.0 in let c = b.1 in omega arith)
 
   pub all_gone : (start todo : List (ListSeat V g)) (spares : List (ℕ × ℕ)) (me : Sat V) (o : IsGathering start todo spares me) → todo ≡ [] → start ≡ o.gone
   all_gone start todo spares me o none_left = o.split ∙ ap (λ (l : List (ListSeat V g)). l ++ o.gone) none_left

@@ -1,5 +1,5 @@
 -- What closing a list works with, and what it gives.
-use Rattle.std.specs.Prelude.{◌≡◌, ◌⊎◌, ℕ, ◌<◌, true, List, [], ◌∷◌, ◌++◌, length, map, if◌then◌else◌}
+use Rattle.std.specs.Prelude.{◌≡◌, ◌⊎◌, ℕ, ◌+◌, ◌<◌, ◌≤◌, true, List, [], ◌∷◌, ◌++◌, length, map, slice_index, if◌then◌else◌}
 use mathlib.Core.Option.{some}
 use lib.ListN.{get_elem?}
 use Rattle.arena_mem.specs.declared.part.Part.{Ghosts}
@@ -15,6 +15,10 @@ use Rattle.arena_list.specs.Nodes.{Begins}
 use Rattle.arena_list.specs.Founded.{Meter, Fits, Differ, slot, caller, node_of}
 use Rattle.arena_list.specs.Views.{hand, out}
 use Rattle.arena_list.specs.Seats.{view, IsSeatOf}
+
+-- each number of the second list is at least that of the first
+abbrev pub AreAtMost : List ℕ → List ℕ → Type 0
+AreAtMost xs ys = (i : ℕ) → i < length ys → slice_index xs i ≤ slice_index ys i
 
 module _ {V : Type 0} where
   -- the view has seen these nodes, itself or in a seat that was joined into it
@@ -45,6 +49,11 @@ module _ {V : Type 0} where
   abbrev pub spares_of : List (Hand V) → List (Entry V)
   spares_of [] = []
   spares_of (h ∷ hs) = if h.linked then spares_of hs else (own_entry h ++ spares_of hs)
+
+  -- what the parts of these entries use together
+  abbrev pub used_sum : Meter V → List (Entry V) → ℕ
+  used_sum m [] = 0
+  used_sum m (e ∷ es) = m.used e.part + used_sum m es
 
   -- each entry has a slot and a caller of its own, and its part fits
   pub record AreApart (m : Meter V) (life : ℕ) (es : List (Entry V)) : Type 0 where

@@ -4,8 +4,9 @@ ghost use Rattle.std.specs.Slots.{slots_items, slots_filled, slots_len, IsFull};
 ghost use mathlib.Core.Option.{some};
 ghost use lib.ListN.{get_elem?};
 ghost use Rattle.arena_list.specs.Founded.{meter};
+ghost use Rattle.arena_list.specs.Views.{shown};
 ghost use Rattle.arena_list.specs.Seats.{view};
-ghost use Rattle.arena_list.specs.Closed.{HasTold, Rested, AreAll, AreApart, AreLinked, hand_of, slots_of, spares_of};
+ghost use Rattle.arena_list.specs.Closed.{HasTold, Rested, AreAll, AreApart, AreAtMost, AreLinked, used_sum, hand_of, slots_of, spares_of};
 
 use crate::collect::{place_others, pull_linked, pull_spares};
 use crate::entry::Entry;
@@ -79,6 +80,7 @@ fn gather<V: Part>(
     ensures hands { result.me.0.hands ≡ reverse (map hand_of seats.items) }
     ensures free { result.me.1 ≡ [] }
     ensures told { (k : ℕ) (s : _) → get_elem? seats.items k ≡ some s → HasTold result.me.0 (view s).seen }
+    ensures sizes { (k : ℕ) (s : _) → get_elem? seats.items k ≡ some s → AreAtMost (view s).sizes result.me.0.sizes }
     ensures slots { spare_slots.new.items ≡ reverse (slots_of seats.items) }
 {
     let Some(last) = seats.pop() else {
@@ -131,6 +133,8 @@ impl<V: Part> ArenaList<V> {
         requires { AreAll self seats.items }
         ensures linked { IfOk result (λ r. AreLinked self seats.items r.0.items) }
         ensures spares { IfOk result (λ r. r.1.items ≡ spares_of (map hand_of seats.items)) }
+        // each answer that a seat got of `sizes` is at most what the linked entries use now
+        ensures used { IfOk result (λ r. (k : ℕ) (s : _) → get_elem? seats.items k ≡ some s → shown (view s) ≤ used_sum (meter V.owner_of V.life_of V.used_of) r.0.items) }
         ensures apart { IfOk result (λ r. AreApart (meter V.owner_of V.life_of V.used_of) self.table.shared.key.life (r.0.items ++ r.1.items)) }
         ensures refused { IfErr result (λ e. (e.1 ≡ self) × (e.2.items ≡ seats.items)) }
     {

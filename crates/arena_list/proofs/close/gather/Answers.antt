@@ -44,6 +44,11 @@ returns-clause-told g c = λ k s at. let o = c.loop-next.invariant.2 in
     let none_left = no_items c.loop-next.seats.items (let a = c.in_default-pop.ensures.cases.0 in let b = c.loop-next.seats.ok.0 in omega arith) in
     let gone = all_gone c.args.seats.items c.loop-next.seats.items c.loop-next.spare_slots.items c.loop-next.all.me o none_left in o.told k s (ap (λ l. get_elem? l k) (sym gone) ∙ at)
 
+pub returns-clause-sizes : goal.returns-clause-sizes
+returns-clause-sizes g c = λ k s at. let o = c.loop-next.invariant.2 in
+    let none_left = no_items c.loop-next.seats.items (let a = c.in_default-pop.ensures.cases.0 in let b = c.loop-next.seats.ok.0 in omega arith) in
+    let gone = all_gone c.args.seats.items c.loop-next.seats.items c.loop-next.spare_slots.items c.loop-next.all.me o none_left in o.sizes k s (ap (λ l. get_elem? l k) (sym gone) ∙ at)
+
 pub returns-clause-slots : goal.returns-clause-slots
 returns-clause-slots g c = let o = c.loop-next.invariant.2 in
     let none_left = no_items c.loop-next.seats.items (let a = c.in_default-pop.ensures.cases.0 in let b = c.loop-next.seats.ok.0 in omega arith) in

@@ -1,9 +1,11 @@
-use Rattle.std.proofs.Common.{◌++◌, ◌≡◌, length, map, reverse, sym, ap, subst, refl, ◌∙◌, arith}
+use Rattle.std.proofs.Common.{◌≤◌, ◌++◌, ◌≡◌, length, map, reverse, sym, ap, subst, refl, ◌∙◌, arith}
 use Rattle.std.proofs.lemmas.List.{length-reverse}
 use Rattle.std.specs.Slots.{slots_items, slots_len, IsFull}
 use Rattle.arena_list.specs.Founded.{meter}
-use Rattle.arena_list.specs.Closed.{AreApart, AreLinked, hand_of, slots_of, spares_of}
-use Rattle.arena_list.proofs.Ending.{slots_within, slots_are, others_vacant, final_entries, final_stored, final_linked, final_spares, final_none, final_apart}
+use Rattle.arena_list.specs.Views.{shown}
+use Rattle.arena_list.specs.Seats.{view}
+use Rattle.arena_list.specs.Closed.{used_sum, AreApart, AreLinked, hand_of, slots_of, spares_of}
+use Rattle.arena_list.proofs.Ending.{slots_within, slots_are, others_vacant, final_entries, final_stored, final_linked, final_spares, final_none, final_apart, final_used}
 use Rattle.arena_list.proofs.list.ArenaList.close.Goals as goal
 
 pub gather-all-requires-clause-rested : goal.gather-all-requires-clause-rested
@@ -102,3 +104,15 @@ returns-clause-apart g c = let es = final_entries (meter g.V.Part.owner_of g.V.P
     (final_apart (meter g.V.Part.owner_of g.V.Part.life_of g.V.Part.used_of) c.args.self.table.shared.key c.gather-all.result.id c.gather-all.result.me.0 (slots_items c.close_with-closed.result.words) (slots_items c.close_with-closed.result.slots) c.empty.new.parts.items c.args.seats.items
     c.close_with-closed.ensures.values.2 c.empty.ensures.parts c.empty.ensures.count c.gather-all.ensures.hands c.requires.count (λ i t a. (c.requires.each i t a).1)
     c.place_others.new.parts.items c.args.self.others.items c.args.self.kept c.place_others.ensures)
+
+pub returns-clause-used : goal.returns-clause-used
+returns-clause-used g c = λ i t a. let es = final_entries (meter g.V.Part.owner_of g.V.Part.life_of g.V.Part.used_of) c.args.self.table.shared.key c.gather-all.result.id c.gather-all.result.me.0 (slots_items c.close_with-closed.result.words) (slots_items c.close_with-closed.result.slots) c.empty.new.parts.items c.args.seats.items
+    c.close_with-closed.ensures.values.2 c.empty.ensures.parts c.empty.ensures.count c.gather-all.ensures.hands c.requires.count (λ i t a. (c.requires.each i t a).1)
+    c.place_others.new.parts.items c.args.self.others.items c.args.self.kept c.place_others.ensures in
+    let st = final_stored (meter g.V.Part.owner_of g.V.Part.life_of g.V.Part.used_of) c.args.self.table.shared.key c.gather-all.result.id c.gather-all.result.me.0 (slots_items c.close_with-closed.result.words) (slots_items c.close_with-closed.result.slots) c.empty.new.parts.items c.args.seats.items
+    c.close_with-closed.ensures.values.2 c.empty.ensures.parts c.empty.ensures.count c.gather-all.ensures.hands c.requires.count (λ i t a. (c.requires.each i t a).1)
+    c.place_others.new.parts.items c.args.self.others.items c.args.self.kept c.place_others.ensures (slots_items c.empty.new.closed.words) (ap slots_items c.empty.ensures.words) in
+    subst (λ l. shown (view t) ≤ used_sum (meter g.V.Part.owner_of g.V.Part.life_of g.V.Part.used_of) l) (sym (c.pull_linked.ensures es st).0)
+    (final_used (meter g.V.Part.owner_of g.V.Part.life_of g.V.Part.used_of) c.args.self.table.shared.key c.gather-all.result.id c.gather-all.result.me.0 (slots_items c.close_with-closed.result.words) (slots_items c.close_with-closed.result.slots) c.empty.new.parts.items c.args.seats.items
+    c.close_with-closed.ensures.values.2 c.empty.ensures.parts c.empty.ensures.count c.gather-all.ensures.hands c.requires.count (λ i t a. (c.requires.each i t a).1)
+    c.place_others.new.parts.items c.args.self.others.items c.args.self.kept c.place_others.ensures c.gather-all.ensures.told c.gather-all.ensures.sizes i t a)
