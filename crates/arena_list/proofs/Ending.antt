@@ -372,7 +372,19 @@ module _ {V : Type 0} {g : Ghosts V} (m : Meter V) (k : Founding V) (s : State (
             (λ h. held_empty i h.0 h.1 x b)
             (cases_maybe (r.holder i))
 
--- ---- the same of a closed table: these words, and parts that are the values of its slots
+-- ---- what a closed table comes to
+-- the entries that its words write down, where `filled` has the values of its slots and those of the others, and what is left when the entries have theirs
+pub record Ends {V : Type 0} {g : Ghosts V} (m : Meter V) (k : Founding V) (v : View V) (seats : List (ListSeat V g)) (words : List ℕ) (filled : List (Option V)) : Type 0 where
+  pub entries : List (Entry V)
+  pub stored : (words' : List ℕ) → words' ≡ words → AreStored words' filled entries
+  pub linked : (list : ArenaList V) → list.table.shared.key ≡ k → list.others.items ≡ others_of k.linked.items k.callers.items → ((i : ℕ) (t : ListSeat V g) → get_elem? seats i ≡ some t → HasTold v (view t).seen) → AreLinked list seats entries
+  pub used : ((i : ℕ) (t : ListSeat V g) → get_elem? seats i ≡ some t → HasTold v (view t).seen) → ((i : ℕ) (t : ListSeat V g) → get_elem? seats i ≡ some t → AreAtMost (view t).sizes v.sizes)
+      → (i : ℕ) (t : ListSeat V g) → get_elem? seats i ≡ some t → shown (view t) ≤ used_sum m entries
+  pub apart : AreApart m k.life (entries ++ spares_of (map hand_of seats))
+  pub spares : (rest : List (Option V)) → Empties filled rest entries → AreIn rest (spares_of (map hand_of seats))
+  pub none_left : (rest left : List (Option V)) → Empties filled rest entries → Empties rest left (spares_of (map hand_of seats)) → (i : ℕ) (x : Option V) → get_elem? left i ≡ some x → x ≡ None
+
+-- these words, and parts that are the values of the slots
 module _ {V : Type 0} {g : Ghosts V} (m : Meter V) (k : Founding V) (id : ℕ) (v : View V) (words : List ℕ) (slots parts : List (Option V)) (seats : List (ListSeat V g)) (final : Final (Seen (Holds m k) id v) words slots)
     (taken : (i : ℕ) (x : Option V) → get_elem? parts i ≡ some x → get_elem? slots i ≡ some x) (long : length parts ≡ 64)
     (hands : v.hands ≡ reverse (map hand_of seats)) (count : length seats ≡ length k.callers.items) (rested : (i : ℕ) (t : ListSeat V g) → get_elem? seats i ≡ some t → Rested t) where
@@ -394,30 +406,13 @@ module _ {V : Type 0} {g : Ghosts V} (m : Meter V) (k : Founding V) (id : ℕ) (
     fills' : Fills parts filled (others_of k.linked.items k.callers.items)
     fills' = subst (Fills parts filled) is fills
 
-    pub final_entries : List (Entry V)
-    final_entries = linked_entries m k state rule id v final.1.1 seats hands count rested parts filled kept fills'
-
-    pub final_stored : (words' : List ℕ) → words' ≡ words → AreStored words' filled final_entries
-    unfolding final_entries
-    final_stored words' same = are_stored m k state rule id v final.1.1 seats hands count rested parts filled kept fills' words' (final.2 ∙ sym same)
-
-    pub final_linked : (list : ArenaList V) → list.table.shared.key ≡ k → list.others.items ≡ others_of k.linked.items k.callers.items → (told : (i : ℕ) (t : ListSeat V g) → get_elem? seats i ≡ some t → HasTold v (view t).seen) → AreLinked list seats final_entries
-    unfolding final_entries
-    final_linked = are_linked m k state rule id v final.1.1 seats hands count rested parts filled kept fills'
-
-    pub final_used : ((i : ℕ) (t : ListSeat V g) → get_elem? seats i ≡ some t → HasTold v (view t).seen) → ((i : ℕ) (t : ListSeat V g) → get_elem? seats i ≡ some t → AreAtMost (view t).sizes v.sizes)
-        → (i : ℕ) (t : ListSeat V g) → get_elem? seats i ≡ some t → shown (view t) ≤ used_sum m final_entries
-    unfolding final_entries
-    final_used = are_used m k state rule id v final.1.1 seats hands count rested parts filled kept fills'
-
-    pub final_apart : AreApart m k.life (final_entries ++ spares_of (map hand_of seats))
-    unfolding final_entries
-    final_apart = are_apart m k state rule id v final.1.1 seats hands count rested parts filled kept fills'
-
-    pub final_spares : (without_linked : List (Option V)) → Empties filled without_linked final_entries → AreIn without_linked (spares_of (map hand_of seats))
-    unfolding final_entries
-    final_spares = spares_in m k state rule id v final.1.1 seats hands count rested parts filled kept fills'
-
-    pub final_none : (without_linked left : List (Option V)) → Empties filled without_linked final_entries → Empties without_linked left (spares_of (map hand_of seats)) → (i : ℕ) (x : Option V) → get_elem? left i ≡ some x → x ≡ None
-    unfolding final_entries
-    final_none without_linked left emptied gone = none_left m k state rule id v final.1.1 seats hands count rested parts filled kept fills' without_linked emptied left gone long
+    pub ends : Ends m k v seats words filled
+    ends = let at = final.1.1 in record {
+      entries = linked_entries m k state rule id v at seats hands count rested parts filled kept fills';
+      stored = λ words' same. are_stored m k state rule id v at seats hands count rested parts filled kept fills' words' (final.2 ∙ sym same);
+      linked = are_linked m k state rule id v at seats hands count rested parts filled kept fills';
+      used = are_used m k state rule id v at seats hands count rested parts filled kept fills';
+      apart = are_apart m k state rule id v at seats hands count rested parts filled kept fills';
+      spares = spares_in m k state rule id v at seats hands count rested parts filled kept fills';
+      none_left = λ rest left emptied gone. none_left m k state rule id v at seats hands count rested parts filled kept fills' rest emptied left gone long;
+    }
