@@ -1,5 +1,5 @@
 -- A varint that is read from a window of eight bytes, all at once.
-use Rattle.std.proofs.Common.{◌≡◌, ◌+◌, ◌-◌, ◌*◌, ◌/◌, ◌%◌, ◌^◌, ◌<◌, ◌≤◌, ℕ, zero, suc, List, [], ◌∷◌, ◌++◌, length, map, replicate, get_or, take, drop, Some, option_map, bit_and, bit_xor, refl, sym, ap, ◌∙◌, subst, pow-add, length-drop, length-take, length-append, ⊎_elim, arith}
+use Rattle.std.proofs.Common.{◌≡◌, ◌+◌, ◌-◌, ◌*◌, ◌/◌, ◌%◌, ◌^◌, ◌<◌, ◌≤◌, ℕ, zero, suc, List, [], ◌∷◌, ◌++◌, length, map, replicate, get_or, take, drop, Some, option_map, bit_and, bit_xor, refl, sym, ap, ◌∙◌, subst, pow-add, length-take, length-append, ⊎_elim, arith}
 use Rattle.std.specs.Int.Bits.{xor_self, xor_zero_l}
 use Rattle.std.specs.Int.Count.{count_trailing_zeros, under}
 use Rattle.std.specs.Int.Digits.{AllBelowBase}
@@ -221,8 +221,8 @@ join_eight (a ∷ b ∷ c ∷ d ∷ e ∷ f ∷ g ∷ k ∷ []) x l h is =
     joins : (a b c d e f g h x : ℕ) → a < 128 → b < 128 → c < 128 → d < 128 → e < 128 → f < 128 → g < 128 → h < 128
         → x ≡ number_l 256 (a ∷ b ∷ c ∷ d ∷ e ∷ f ∷ g ∷ h ∷ [])
         → (let fourteens = bit_and x 0x007f_007f_007f_007f + bit_and x 0x7f00_7f00_7f00_7f00 / 2 in
-          let twenty_eights = bit_and fourteens 0x0000_3fff_0000_3fff + bit_and fourteens 0x3fff_0000_3fff_0000 / 4 in
-          twenty_eights % 2 ^ 32 + twenty_eights / 2 ^ 32 * 2 ^ 28 % 2 ^ 64)
+        let twenty_eights = bit_and fourteens 0x0000_3fff_0000_3fff + bit_and fourteens 0x3fff_0000_3fff_0000 / 4 in
+        twenty_eights % 2 ^ 32 + twenty_eights / 2 ^ 32 * 2 ^ 28 % 2 ^ 64)
         ≡ a + 128 * (b + 128 * (c + 128 * (d + 128 * (e + 128 * (f + 128 * (g + 128 * (h + 128 * 0)))))))
     joins a b c d e f g h x A B C D E F G H is =
         let fourteens = bit_and x 0x007f_007f_007f_007f + bit_and x 0x7f00_7f00_7f00_7f00 / 2 in

@@ -1,4 +1,4 @@
-use Rattle.std.proofs.Common.{◌+◌, ◌-◌, ◌^◌, ◌<◌, ◌≤◌, bit_and, drop, length, get_or, length-drop, refl, arith}
+use Rattle.std.proofs.Common.{◌+◌, ◌-◌, ◌^◌, bit_and, drop, length-drop, refl, arith}
 use Rattle.std.proofs.lemmas.List.{get_or-drop}
 use Rattle.arena_run.proofs.Window.{window_found}
 use Rattle.arena_run.proofs.wire.read_window.Goals as goal
