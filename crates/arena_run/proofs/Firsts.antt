@@ -1,6 +1,6 @@
 -- The first fault of a file, from where it was read to.
 use Rattle.std.proofs.Common.{◌≡◌, ◌⊎◌, ◌^◌, ◌<◌, ◌≤◌, ℕ, zero, suc, Bool, true, false, cond, leb, get_or, List, [], ◌∷◌, length, Option, None, Some, Result, Ok, Err, sym, ap, ◌∙◌, subst, inl, inr, arith}
-use Rattle.std.specs.Prelude.{All, IfOk, IfErr, IfSome, IsSomeAnd, IsErrOf}
+use Rattle.std.specs.Prelude.{All, IfOk, IfErr, IfSome, IsSomeAnd}
 use Rattle.std.proofs.lemmas.Bool.{cond-true, cond-false, le-leb, lt-leb}
 use Rattle.pb_schema.specs.Frames.{Frames, frames_of}
 use Rattle.pb_schema.specs.Tree.{Tree}

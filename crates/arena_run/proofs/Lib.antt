@@ -6,7 +6,6 @@ pub mod Feet
 pub mod HeldBytes
 pub mod Sound
 pub mod PayloadRecords
-pub mod Kept
 pub mod Messages
 pub mod AllStand
 pub mod Rows

@@ -1,8 +1,8 @@
 -- Where a parser of frames stands.
-use Rattle.std.proofs.Common.{◌≡◌, ◌+◌, ◌*◌, ◌^◌, ◌<◌, ◌≤◌, ℕ, zero, suc, List, [], ◌∷◌, ◌++◌, length, take, drop, Option, None, Some, refl, sym, ap, ◌∙◌, subst, take-append-drop, arith}
+use Rattle.std.proofs.Common.{◌≡◌, ◌+◌, ◌^◌, ◌<◌, ◌≤◌, ℕ, zero, suc, List, [], ◌∷◌, ◌++◌, length, take, drop, Option, None, Some, refl, sym, ap, ◌∙◌, subst, arith}
 use Rattle.std.specs.Prelude.{All, IsSome, IsSomeAnd, option_and_then, slice_get}
 use Rattle.std.specs.Option.{option_map}
-use Rattle.std.proofs.lemmas.List.{length_push, drop_more, take_more, at_drop_all, take_all}
+use Rattle.std.proofs.lemmas.List.{drop_more, take_more, at_drop_all, take_all}
 use Rattle.std.proofs.lemmas.List.Elements.{All-get_or}
 use Rattle.std.proofs.lemmas.Option.{none-some, get_or_from_slice_get}
 use Rattle.arena_mem.specs.declared.place.Place.{Place}
@@ -17,7 +17,7 @@ use Rattle.arena_run.specs.declared.fault.Fault.{Fault}
 use Rattle.arena_run.specs.declared.fault.Fault.TheVariants.{BadFrame}
 use Rattle.arena_run.specs.Faults.{each_tree, bad_frame, payloads_fault}
 use Rattle.arena_run.specs.Stands.{StandApart, IsMadeAnew, how_many}
-use Rattle.arena_run.proofs.Kept.{none_apart, one_more_apart}
+use Rattle.arena_run.proofs.AllStand.{apart_none, apart_more}
 
 -- payload by payload, its tree
 abbrev pub Decodes : List (List ℕ) → List Tree → Type 0
@@ -59,7 +59,7 @@ pub record ParsedTo (others : ℕ) (payloads : List (List ℕ)) (places : Places
   pub apart : StandApart others places buffers messages trees
 
 pub parsed_none : (places : Places) (buffers : Buffers) → ParsedTo (how_many places buffers) [] places buffers []
-parsed_none places buffers = record { trees = []; decoded = tt; apart = none_apart places buffers }
+parsed_none places buffers = record { trees = []; decoded = tt; apart = apart_none (how_many places buffers) places buffers refl }
 
 one_parsed : (others : ℕ) (payloads : List (List ℕ)) (old new : Places) (was now : Buffers) (messages : List Place) (payload : List ℕ) (p : Place) → ParsedTo others payloads old was messages → KeepsRest old new → KeepsBuffers was now
     → (found : Option Tree) → tree_of builtin 0 payload ≡ found → IsSomeAnd found (IsMadeAnew old was new now p) → ParsedTo others (payloads ++ payload ∷ []) new now (messages ++ p ∷ [])
@@ -68,7 +68,7 @@ one_parsed others payloads old new was now messages payload p so_far kept kept_t
     record {
       trees = so_far.trees ++ t ∷ [];
       decoded = decodes_more payloads so_far.trees payload t so_far.decoded is;
-      apart = one_more_apart others old new was now messages so_far.trees p t kept kept_too so_far.apart made;
+      apart = apart_more others old new was now messages so_far.trees p t kept kept_too so_far.apart made;
     }
 
 pub parsed_more : (others : ℕ) (payloads : List (List ℕ)) (i : ℕ) (old new : Places) (was now : Buffers) (messages after : List Place) (payload : List ℕ) (p : Place) → ParsedTo others (take i payloads) old was messages → slice_get payloads i ≡ Some payload

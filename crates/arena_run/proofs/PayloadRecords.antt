@@ -1,8 +1,8 @@
 -- What the records of a payload give, one after another: the field's number, and the bytes that don't fit it.
-use Rattle.std.proofs.Common.{◌≡◌, ◌+◌, ◌-◌, ◌%◌, ◌^◌, ◌<◌, ◌≤◌, ℕ, zero, suc, List, [], ◌∷◌, ◌++◌, length, take, drop, Bool, true, false, not, cond, ◌&&◌, ◌||◌, eqb, Option, None, Some, Result, Ok, Err, refl, sym, ap, ◌∙◌, subst, arith, append_assoc, append-nil, drop-drop, length-drop}
+use Rattle.std.proofs.Common.{◌≡◌, ◌+◌, ◌-◌, ◌<◌, ◌≤◌, ℕ, zero, suc, List, [], ◌∷◌, ◌++◌, length, take, drop, Bool, true, false, not, cond, ◌&&◌, ◌||◌, eqb, Option, None, Some, Ok, Err, refl, sym, ap, ◌∙◌, subst, arith, append_assoc, append-nil, drop-drop, length-drop}
 use Rattle.std.specs.List.{filter}
 use Rattle.std.specs.Prelude.{flat_map}
-use Rattle.std.proofs.lemmas.List.{take_all, take-append-drop, length-take-le, length-append}
+use Rattle.std.proofs.lemmas.List.{take_all, take-append-drop, length-append}
 use Rattle.std.proofs.lemmas.List.Elements.{filter-append}
 use Rattle.std.proofs.lemmas.Grind.{flat_map-append}
 use Rattle.std.proofs.lemmas.Bool.{eqb-true, and_parts}
@@ -11,12 +11,12 @@ use Rattle.pb_schema.specs.declared.wire_fault.WireFault.{WireFault}
 use Rattle.pb_schema.specs.Builtin.{builtin, tick_type, field}
 use Rattle.pb_schema.specs.declared.kind.Kind.TheVariants as kinds
 use Rattle.pb_schema.specs.declared.kind.Card.TheVariants as cards
-use Rattle.pb_schema.specs.Varint.{Varint, varint_at, tag_bytes, value_bytes, seven_bits}
+use Rattle.pb_schema.specs.Varint.{Varint, varint_at, value_bytes}
 use Rattle.pb_schema.specs.Form.{Form, read_varint}
 use Rattle.pb_schema.specs.Fits.{fits, fits_any, fields_of}
 use Rattle.pb_schema.specs.Fault.{fault_of, most_levels}
 use Rattle.pb_schema.specs.Reads.{read_map, fault_read}
-use Rattle.pb_schema.specs.Records.{Record, IsRecord, AreRecords, Spells, Spans, RecordsWithin, Records, records_within, record_of}
+use Rattle.pb_schema.specs.Records.{Record, IsRecord, AreRecords, Spells, Spans, RecordsWithin, Records, record_of}
 use Rattle.pb_schema.specs.Tree.{Held, Nothing, One, Value, Number, Tree, Message, NoFields, FieldAnd}
 use Rattle.pb_schema.specs.TreeOf.{tree_of, tree_left, gathered, or_none, number_in, fitting, last_of, unknown_of, unless_default, last_held, Nest}
 use Rattle.pb_schema.specs.Walk.{record_left}

@@ -1,7 +1,6 @@
 -- Whether a payload of `pb.Tick` has a fault: it is read as a list of records of any kind, since none of its fields asks more of a payload.
-use Rattle.std.proofs.Common.{◌≡◌, ℕ, zero, suc, ◌+◌, ◌-◌, ◌<◌, ◌≤◌, List, [], ◌∷◌, ◌++◌, length, take, drop, Bool, true, false, eqb, ◌&&◌, cond, Option, None, Some, Result, Ok, Err, refl, sym, ap, ◌∙◌, subst, ⊎_elim, arith, drop-drop, length-drop}
-use Rattle.std.proofs.lemmas.Bool.{ne_eqb, cases_eq}
-use Rattle.std.proofs.lemmas.List.{at_drop_all, drop_at}
+use Rattle.std.proofs.Common.{◌≡◌, ℕ, zero, suc, ◌+◌, ◌-◌, ◌<◌, ◌≤◌, List, [], ◌∷◌, length, take, drop, Bool, true, false, eqb, Option, None, Some, Result, Ok, Err, refl, sym, ap, ◌∙◌, arith, drop-drop, length-drop}
+use Rattle.std.proofs.lemmas.List.{at_drop_all}
 use Rattle.pb_schema.specs.declared.kind.FieldType.{FieldType}
 use Rattle.pb_schema.specs.declared.schema.MessageType.{MessageType}
 use Rattle.pb_schema.specs.declared.wire_fault.WireFault.{WireFault}

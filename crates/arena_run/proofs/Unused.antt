@@ -1,5 +1,5 @@
 -- An arena in which nothing was placed and nothing is kept.
-use Rattle.std.proofs.Common.{◌≡◌, ◌+◌, ℕ, List, ap, ◌∙◌, arith}
+use Rattle.std.proofs.Common.{◌≡◌, ap, ◌∙◌, arith}
 use Rattle.std.specs.Prelude.{[]}
 use Rattle.std.specs.FinMap as map
 use Rattle.serial_arena.specs.Serial.{SerialState, places_of, buffers_of, IsUnused}

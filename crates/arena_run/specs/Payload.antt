@@ -2,7 +2,7 @@
 use Rattle.std.specs.Prelude.{◌≡◌, ◌+◌, ℕ, List, drop, Some, ⊤}
 use Rattle.pb_schema.specs.Builtin.{builtin, tick_type}
 use Rattle.pb_schema.specs.Fault.{fault_of, most_levels}
-use Rattle.pb_schema.specs.Records.{Record, records_within}
+use Rattle.pb_schema.specs.Records.{records_within}
 use Rattle.pb_schema.specs.Tag.{tag_of}
 use Rattle.pb_schema.specs.TreeOf.{or_none, unknown_of}
 use Rattle.pb_schema.specs.Varint.{varint_at, tag_bytes, value_bytes}

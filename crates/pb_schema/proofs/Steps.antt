@@ -1,9 +1,9 @@
 -- Steps of a loop that reads or writes the wire format: what a definition says one byte or one frame on.
-use Rattle.std.proofs.Common.{◌≡◌, ℕ, zero, suc, ◌+◌, ◌-◌, ◌*◌, ◌/◌, ◌%◌, ◌^◌, ◌<◌, ◌≤◌, List, [], ◌∷◌, ◌++◌, length, get_or, take, drop, Bool, true, false, cond, Option, None, Some, option_map, option_and_then, Result, Ok, Err, refl, sym, ap, ◌∙◌, ⊎_elim, arith, length-drop, length-take-le, drop-drop, pow-add, ltb, leb, ◌&&◌, eqb}
-use Rattle.std.proofs.lemmas.Bool.{cases_lt, lt-ltb, le-ltb, le-leb, eq-eqb, cond-true, cond-false, and_from, and_parts, ltb-true, leb-true, eqb-true}
+use Rattle.std.proofs.Common.{◌≡◌, ℕ, zero, suc, ◌+◌, ◌-◌, ◌*◌, ◌/◌, ◌%◌, ◌^◌, ◌<◌, ◌≤◌, List, [], ◌∷◌, ◌++◌, length, get_or, take, drop, Bool, true, false, cond, Option, None, Some, option_map, option_and_then, Result, Ok, Err, refl, sym, ap, ◌∙◌, ⊎_elim, arith, length-take-le, drop-drop, pow-add, ltb, leb, ◌&&◌}
+use Rattle.std.proofs.lemmas.Bool.{cases_lt, lt-ltb, le-ltb, le-leb, cond-true, cond-false, and_from, and_parts, ltb-true, leb-true}
 use Rattle.std.proofs.lemmas.Option.{none-some, same_Some, option_and_then_some, cond_some}
 use Rattle.std.proofs.lemmas.List.{at_drop_more, at_drop_all, drop_more, take_more}
-use Rattle.pb_schema.specs.Varint.{seven_bits, varint_bytes, varint_at, tag_bytes, value_bytes, groups, varint_of}
+use Rattle.pb_schema.specs.Varint.{seven_bits, varint_bytes, varint_at, tag_bytes, groups, varint_of}
 use Rattle.pb_schema.specs.Frames.{payload_at, frame_at, behind, frames_from, frames_of}
 use Rattle.pb_schema.specs.Text.{framed}
 

@@ -1,5 +1,5 @@
 -- What is written for a message of `pb.Tick` is read back, its unknown bytes too.
-use Rattle.std.proofs.Common.{◌≡◌, ◌≢◌, ℕ, zero, suc, ◌^◌, ◌<◌, List, [], ◌∷◌, ◌++◌, Bool, true, false, not, cond, ◌&&◌, ◌||◌, eqb, Option, None, Some, Ok, refl, sym, ap, ◌∙◌, subst, arith, append_assoc, append-nil, ⊎_elim}
+use Rattle.std.proofs.Common.{◌≡◌, ℕ, zero, suc, ◌^◌, ◌<◌, List, [], ◌∷◌, ◌++◌, Bool, true, false, not, cond, ◌&&◌, ◌||◌, eqb, Option, None, Some, refl, sym, ap, ◌∙◌, subst, arith, append-nil, ⊎_elim}
 use Rattle.std.specs.Prelude.{flat_map}
 use Rattle.std.specs.List.{filter}
 use Rattle.std.proofs.lemmas.Bool.{ne_eqb, cases_eq}
@@ -13,8 +13,8 @@ use Rattle.pb_schema.specs.Fits.{Contents, Anything, Numbers, contents_of, fits,
 use Rattle.pb_schema.specs.Walk.{read_contents, deeper_left}
 use Rattle.pb_schema.specs.Fault.{fault_of, most_levels}
 use Rattle.pb_schema.specs.Records.{Record, IsRecord, AreRecords, RecordsWithin}
-use Rattle.pb_schema.specs.Tree.{Held, Nothing, One, Many, Value, Number, Bytes, Sub, Tree, Message, NoFields, FieldAnd}
-use Rattle.pb_schema.specs.TreeOf.{tree_of, tree_left, gathered, or_none, number_in, fitting, unknown_of, unless_default, last_held, Nest}
+use Rattle.pb_schema.specs.Tree.{Held, Nothing, One, Many, Number, Bytes, Sub, Tree, Message, NoFields, FieldAnd}
+use Rattle.pb_schema.specs.TreeOf.{tree_of, tree_left, gathered, or_none, number_in, unknown_of, unless_default, last_held, Nest}
 use Rattle.pb_schema.specs.Fits.{fields_of}
 use Rattle.pb_schema.specs.Fitted.{FitNone, Fitted}
 use Rattle.pb_schema.specs.Text.{text_of}

@@ -1,8 +1,8 @@
-use Rattle.std.proofs.Common.{◌≡◌, ◌+◌, ◌*◌, ◌^◌, ◌≤◌, ◌++◌, ℕ, [], ◌∷◌, cond, List, Some, length, take, sym, ap, ◌∙◌, subst, inr, arith}
+use Rattle.std.proofs.Common.{◌≡◌, ◌++◌, [], ◌∷◌, cond, List, Some, take, sym, ap, ◌∙◌, subst, inr, arith}
 use Rattle.arena_mem.specs.declared.place.Place.{Place}
 use Rattle.arena_run.specs.Payload.{IsFaultOf}
 use Rattle.arena_run.specs.Stands.{how_many, IsMadeAnew}
-use Rattle.arena_run.proofs.Parsing.{parsed_more, parsed_all, parsed_none, tree_sound, sound_more, bad_here, all_sound}
+use Rattle.arena_run.proofs.Parsing.{parsed_more, parsed_all, tree_sound, sound_more, bad_here}
 use Rattle.arena_run.proofs.parse.parse_frames.Goals as goal
 
 pub returns-in-Err-Bad-clause-fault : goal.returns-in-Err-Bad-clause-fault

@@ -1,5 +1,5 @@
 use Rattle.std.specs.FinMap as finite
-use Rattle.std.proofs.Common.{◌≡◌, ◌+◌, ◌*◌, ◌≤◌, ℕ, length, take}
+use Rattle.std.proofs.Common.{◌≡◌, ◌+◌, ◌*◌, ◌≤◌, ℕ, take}
 use Rattle.arena_mem.specs.Places.{KeepsRest, KeepsBuffers}
 use Rattle.arena_run.specs.Stands.{how_many}
 use Rattle.arena_run.proofs.Parsing.{ParsedTo, SoundTo}

@@ -1,6 +1,6 @@
-use Rattle.std.proofs.Common.{sym, ap, ◌∙◌, arith}
+use Rattle.std.proofs.Common.{sym, ◌∙◌, arith}
 use Rattle.std.proofs.lemmas.Option.{none-some}
-use Rattle.arena_run.proofs.PayloadRecords.{unknown_none, copied_more, run_more, unknown_all, fault_of_all}
+use Rattle.arena_run.proofs.PayloadRecords.{copied_more, run_more, unknown_all, fault_of_all}
 use Rattle.arena_run.proofs.payload.gather.Goals as goal
 
 pub unreachable-requires : goal.unreachable-requires

@@ -1,4 +1,4 @@
-use Rattle.std.proofs.Common.{take, length, ◌≤◌, length-take, arith}
+use Rattle.std.proofs.Common.{take, length-take, arith}
 use Rattle.arena_run.proofs.PayloadRecords.{plain_none, plain_more, plain_tree}
 use Rattle.arena_run.proofs.wire.read_value.Goals as goal
 
