@@ -14,33 +14,18 @@ use Rattle.arena_list.specs.Closed.{entry, IsAmong}
 use Rattle.arena_list.specs.Collected.{place_of, AreIn, AreStored, Fills, Empties}
 use Rattle.arena_list.proofs.Lists.{at_below, at_there, at_more, at_end}
 use Rattle.arena_list.proofs.Links.{before_at, before_small}
-use Rattle.arena_list.proofs.Few.{at_map, at_mapped, len_map}
+use Rattle.arena_list.proofs.Sums.{at_drop, past}
+use Rattle.arena_list.proofs.Few.{or_at, at_map, at_mapped, len_map}
 use Rattle.arena_list.proofs.Seats.{at_behind, at_end_of}
 use Rattle.arena_list.proofs.Filling.{no_items}
 
 module _ {A : Type 0} where
-  pub at_drop : (l : List A) (n i : ℕ) (a : A) → get_elem? (drop n l) i ≡ some a → get_elem? l (n + i) ≡ some a
-  at_drop l zero i a e = subst (λ (k : ℕ). get_elem? l k ≡ some a) (let z : i ≡ 0 + i = omega arith in z) e
-  at_drop [] (suc n) i a e = absurd (some-ne-none a (sym e))
-  at_drop (x ∷ xs) (suc n) i a e = subst (λ (k : ℕ). get_elem? (x ∷ xs) k ≡ some a) (let z : suc (n + i) ≡ suc n + i = omega arith in z) (at_drop xs n i a e)
-
-  pub drop_whole : (l : List A) (n : ℕ) → n ≡ length l → drop n l ≡ []
-  drop_whole [] zero e = refl
-  drop_whole [] (suc n) e = refl
-  drop_whole (x ∷ xs) zero e = absurd (omega arith)
-  drop_whole (x ∷ xs) (suc n) e = drop_whole xs n (omega arith)
-
   -- lists with one more that are equal have equal last elements
   pub last_same : (xs ys : List A) (x y : A) → xs ++ x ∷ [] ≡ ys ++ y ∷ [] → (xs ≡ ys) × (x ≡ y)
   last_same [] [] x y e = (refl, some-injective x y (ap (λ (l : List A). get_elem? l 0) e))
   last_same [] (b ∷ ys) x y e = absurd (let l : length (x ∷ []) ≡ length (b ∷ (ys ++ y ∷ [])) = ap length e in let k : length (ys ++ y ∷ []) ≡ length ys + 1 = length-append ys (y ∷ []) in omega arith)
   last_same (a ∷ xs) [] x y e = absurd (let l : length (a ∷ (xs ++ x ∷ [])) ≡ length (y ∷ []) = ap length e in let k : length (xs ++ x ∷ []) ≡ length xs + 1 = length-append xs (x ∷ []) in omega arith)
   last_same (a ∷ xs) (b ∷ ys) x y e = let h : a ≡ b = some-injective a b (ap (λ (l : List A). get_elem? l 0) e) in let r = last_same xs ys x y (ap (drop 1) e) in ((λ i. h i ∷ r.0 i), r.1)
-
-pub word_at : (l : List ℕ) (i w : ℕ) → get_elem? l i ≡ some w → slice_index l i ≡ w
-word_at [] i w e = absurd (some-ne-none w (sym e))
-word_at (x ∷ xs) zero w e = some-injective x w e
-word_at (x ∷ xs) (suc i) w e = word_at xs i w e
 
 module _ {V : Type 0} where
   -- one entry stands at one place
@@ -126,8 +111,8 @@ module _ {V : Type 0} where
     node_small i n at = let p = at_mapped node_of es i n at in subst (λ (n : Node). n.slot < 64) p.2 (st.small i p.0 p.1)
 
     pub take_starts : (head : ℕ) (taken : List (Entry V)) → get_elem? words 0 ≡ some head → taken ≡ [] → IsTaking es old old taken (head / 2 ^ 32) (head % 2 ^ 32)
-    take_starts head taken at none = let is : head ≡ head_of (map node_of es) = sym (word_at words 0 head at) ∙ st.head in let b = before_small (map node_of es) node_small (length (map node_of es)) in let n = len_map node_of es in
-        let left : head / 2 ^ 32 ≡ length es = omega arith in let link : head % 2 ^ 32 ≡ before (map node_of es) (length (map node_of es)) = omega arith in let gone = drop_whole es (head / 2 ^ 32) left in record {
+    take_starts head taken at none = let is : head ≡ head_of (map node_of es) = sym (or_at words 0 0 head at) ∙ st.head in let b = before_small (map node_of es) node_small (length (map node_of es)) in let n = len_map node_of es in
+        let left : head / 2 ^ 32 ≡ length es = omega arith in let link : head % 2 ^ 32 ≡ before (map node_of es) (length (map node_of es)) = omega arith in let gone = past es (head / 2 ^ 32) (omega arith) in record {
           link_is = link ∙ ap (before (map node_of es)) (n ∙ sym left);
           within = omega arith;
           items = none ∙ ap reverse (sym gone);
@@ -150,7 +135,7 @@ module _ {V : Type 0} where
 
       -- what its word holds
       pub take_word : (word : ℕ) → get_elem? words (8 + (link - 1)) ≡ some word → (word / 2 ^ 32 ≡ next.caller) × (word % 2 ^ 32 ≡ before (map node_of es) (left - 1))
-      take_word word at = let is : word ≡ node_word next.caller (before (map node_of es) (left - 1)) = sym (word_at words (8 + (link - 1)) word at) ∙ ap (λ (n : ℕ). slice_index words (8 + n)) next_slot ∙ st.nodes (left - 1) next take_next.1 in
+      take_word word at = let is : word ≡ node_word next.caller (before (map node_of es) (left - 1)) = sym (or_at words (8 + (link - 1)) 0 word at) ∙ ap (λ (n : ℕ). slice_index words (8 + n)) next_slot ∙ st.nodes (left - 1) next take_next.1 in
           let b = before_small (map node_of es) node_small (left - 1) in (omega arith, omega arith)
 
       pub take_value : get_elem? now (link - 1) ≡ some (Some next.part)
@@ -205,10 +190,8 @@ module _ {V : Type 0} where
     own = spare_next.0
 
     own_at : get_elem? es (length taken) ≡ some own
-    own_at = ap (λ (l : List (Entry V)). get_elem? l (length taken)) (o.split ∙ ap (λ (l : List (Entry V)). taken ++ l) spare_next.2) ∙ here taken own spare_next.1 where
-      here : (l : List (Entry V)) (x : Entry V) (r : List (Entry V)) → get_elem? (l ++ x ∷ r) (length l) ≡ some x
-      here [] x r = refl
-      here (y ∷ ys) x r = here ys x r
+    own_at = ap (λ (l : List (Entry V)). get_elem? l (length taken)) (o.split ∙ ap (λ (l : List (Entry V)). taken ++ l) spare_next.2)
+        ∙ ap (get_elem? (taken ++ own ∷ spare_next.1)) (let z : length taken ≡ length taken + 0 = omega arith in z) ∙ at_behind taken (own ∷ spare_next.1) 0 own refl
 
     own_there : get_elem? now own.slot ≡ some (Some own.part)
     own_there = o.emptied.rest own.slot (λ i f at. λ same. let in_all : get_elem? es i ≡ some f = ap (λ (l : List (Entry V)). get_elem? l i) o.split ∙ at_more taken o.todo i f at in

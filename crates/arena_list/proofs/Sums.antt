@@ -19,12 +19,12 @@ use Rattle.arena_list.proofs.Lists.{at_there, at_one, at_below, begins_itself}
 use Rattle.arena_list.proofs.Links.{before_at, before_small, past_end}
 use Rattle.arena_list.proofs.SeatFacts.{mine_tells}
 
-at_drop : {A : Type 0} (l : List A) (i j : ℕ) (a : A) → get_elem? (drop i l) j ≡ some a → get_elem? l (i + j) ≡ some a
+pub at_drop : {A : Type 0} (l : List A) (i j : ℕ) (a : A) → get_elem? (drop i l) j ≡ some a → get_elem? l (i + j) ≡ some a
 at_drop l zero j a e = subst (λ (n : ℕ). get_elem? l n ≡ some a) (let z : j ≡ 0 + j = omega arith in z) e
 at_drop [] (suc i) j a e = absurd (some-ne-none a (sym e))
 at_drop (x ∷ xs) (suc i) j a e = subst (λ (n : ℕ). get_elem? (x ∷ xs) n ≡ some a) (let z : suc (i + j) ≡ suc i + j = omega arith in z) (at_drop xs i j a e)
 
-past : {A : Type 0} (l : List A) (i : ℕ) → length l ≤ i → drop i l ≡ []
+pub past : {A : Type 0} (l : List A) (i : ℕ) → length l ≤ i → drop i l ≡ []
 past [] zero h = refl
 past [] (suc i) h = refl
 past (x ∷ xs) zero h = absurd (omega arith)
