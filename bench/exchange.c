@@ -1,5 +1,5 @@
 /* The yardstick for a take and a give: each of so many threads exchanges a word of its own and stores into it again, so
- * many rounds, with the words 64 bytes apart. Prints the threads and the nanoseconds of the best of nine runs. */
+ * many rounds, with the words 64 bytes apart. Prints the threads and the nanoseconds of the best of 99 runs. */
 #include <pthread.h>
 #include <stdalign.h>
 #include <stdatomic.h>
@@ -8,7 +8,7 @@
 #include <stdlib.h>
 #include <time.h>
 
-enum { MOST = 64, RUNS = 9 };
+enum { MOST = 64, RUNS = 99 };
 
 struct state {
     alignas(64) atomic_uint_fast64_t word;
