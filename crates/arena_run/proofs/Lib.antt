@@ -1,3 +1,4 @@
+pub mod Numbers
 pub mod WordForms
 pub mod Firsts
 pub mod Slots

@@ -16,7 +16,7 @@ use Rattle.arena_run.proofs.Reading.{moved_some}
 
 -- THE BYTES OF A WINDOW
 
-pub window_bytes : (n : ℕ) (s : List ℕ) → ((k : ℕ) → get_or s k 0 < 256) → AllBelowBase 256 (take n s)
+window_bytes : (n : ℕ) (s : List ℕ) → ((k : ℕ) → get_or s k 0 < 256) → AllBelowBase 256 (take n s)
 window_bytes zero s h = tt
 window_bytes (suc n) [] h = tt
 window_bytes (suc n) (b ∷ s) h = (h 0, window_bytes n s (λ k. h (suc k)))

@@ -1,21 +1,22 @@
 -- The words that the program is called with, without its own name.
 use Rattle.std.specs.Prelude.{◌≡◌, ◌⊎◌, ◌+◌, ◌-◌, ◌*◌, ◌^◌, ◌≤◌, ℕ, Bool, ◌&&◌, nat_le, List, [], ◌∷◌, length, Option, None, Some, IsSomeAnd, codes, if◌then◌else◌}
+use Rattle.std.specs.Option.{option_map}
 
 -- NUMBERS
 
 abbrev pub is_digit : ℕ → Bool
 is_digit b = nat_le 48 b && nat_le b 57
 
--- the number that some digits spell behind those of v; nothing where one of them is no digit
-abbrev pub number_behind : ℕ → List ℕ → Option ℕ
-number_behind v [] = Some v
-number_behind v (b ∷ s) = if is_digit b then number_behind (v * 10 + (b - 48)) s else None
+-- the number that some digits spell, each times ten to the number of those behind it; nothing where one of them is no digit
+abbrev pub number_in : List ℕ → Option ℕ
+number_in [] = Some 0
+number_in (b ∷ s) = if is_digit b then option_map (λ v. (b - 48) * 10 ^ length s + v) (number_in s) else None
 
 -- one to so many digits, leading zeros among them, of a number from least to most
 pub record IsNumber (digits least most : ℕ) (word : List ℕ) : Type 0 where
   pub some : 1 ≤ length word
   pub few : length word ≤ digits
-  pub value : IsSomeAnd (number_behind 0 word) (λ v. (least ≤ v) × (v ≤ most))
+  pub value : IsSomeAnd (number_in word) (λ v. (least ≤ v) × (v ≤ most))
 
 -- how many workers are asked for
 abbrev pub IsWorkers : List ℕ → Type 0

@@ -1,7 +1,7 @@
 // The words of the command line.
 ghost use Rattle.std.specs.Prelude.{◌≡◌, ◌+◌, ◌^◌, ◌<◌, ◌≤◌, ℕ, List, true, false, length, map, MatchOption};
 ghost use Rattle.std.specs.String.{string_bytes};
-ghost use Rattle.arena_run.specs.Words.{number_behind, IsNumber, HasForm, HasNoForm, IsCat};
+ghost use Rattle.arena_run.specs.Words.{number_in, IsNumber, HasForm, HasNoForm, IsCat};
 
 /// The greatest number of workers, which has two digits.
 const MOST_WORKERS: u64 = 64;
@@ -70,7 +70,7 @@ fn is_number(word: &String, digits: usize, least: u64, most: u64) -> bool
 // The number that some digits spell; none where one of them is no digit.
 fn number_of(spelled: &[u8]) -> Option<u64>
     requires { length spelled.now ≤ 10 }
-    ensures { result ≡ number_behind 0 spelled.now }
+    ensures { result ≡ number_in spelled.now }
 {
     let mut number = 0u64;
     for &digit in spelled {
