@@ -93,6 +93,7 @@ module _ {V : Type 0} (v : View V) (sees : Sees (hand v) v.seen) where
         mine_is = (λ i. Some ((at ∙ t.2 ∙ slots.1) i)) ∙ ap (λ (b : Bool). when b (hand v).slot) (sym slots.0) ∙ ap (λ (h : Hand V). when h.linked h.slot) (sym same_hand);
         some_step = (let a = o.steps in let b = o.within in omega arith);
         steps = (let a = o.steps in let e : length u.seen ≡ length v.seen = ap length seen in omega arith);
+        few = subst (λ (l : List Node). length l ≤ 64) (sym seen) sees.few;
         seen = subst (λ (l : List Node). Begins old.seen l) (sym seen) begins;
         hands = ap (λ (x : View V). x.hands) step ∙ ap (λ (x : View V). x.hands) o.same ∙ ap (λ (x : View V). x.hands) look;
         sizes = ap (λ (x : View V). x.sizes) step ∙ ap (λ (x : View V). x.sizes) o.same ∙ ap (λ (x : View V). x.sizes) look;
@@ -112,6 +113,7 @@ module _ {V : Type 0} (v : View V) (sees : Sees (hand v) v.seen) where
             (cases_Bool (hand v).linked);
         some_step = (let a = o.steps in omega arith);
         steps = (let a = o.steps in let e : length w.seen ≡ length v.seen = ap length seen in omega arith);
+        few = subst (λ (l : List Node). length l ≤ 64) (sym seen) sees.few;
         seen = subst (λ (l : List Node). Begins old.seen l) (sym seen) begins;
         hands = ap (λ (x : View V). x.hands) o.same ∙ ap (λ (x : View V). x.hands) look;
         sizes = ap (λ (x : View V). x.sizes) o.same ∙ ap (λ (x : View V). x.sizes) look;

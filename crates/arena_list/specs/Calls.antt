@@ -25,6 +25,7 @@ module _ {V : Type 0} where
     -- one step for the look, and at most one for each node
     pub some_step : v.list_steps + 1 ≤ w.list_steps
     pub steps : w.list_steps ≤ v.list_steps + 1 + length w.seen
+    pub few : length w.seen ≤ 64
     pub seen : Begins v.seen w.seen
     pub hands : w.hands ≡ v.hands
     pub sizes : w.sizes ≡ v.sizes
@@ -84,6 +85,7 @@ module _ {V : Type 0} where
     pub earlier : shown v ≤ answer
     pub grown : (slot : ℕ) → slice_index v.sizes slot ≤ slice_index w.sizes slot
     pub steps : w.list_steps ≡ v.list_steps + 1 + length w.seen
+    pub few : length w.seen ≤ 64
     pub seen : Begins v.seen w.seen
     pub hands : w.hands ≡ v.hands
     pub base : w.base ≡ v.base
