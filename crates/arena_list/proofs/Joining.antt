@@ -15,7 +15,7 @@ use Rattle.arena_list.specs.declared.view.Hand.{Hand}
 use Rattle.arena_list.specs.declared.view.View.{View}
 use Rattle.arena_list.specs.Nodes.{Begins}
 use Rattle.arena_list.specs.Views.{hand}
-use Rattle.arena_list.specs.Founded.{Meter, base}
+use Rattle.arena_list.specs.Founded.{Meter}
 use Rattle.arena_list.specs.Rule.{Holds, IsHand, Knows, Stands, hand_count}
 use Rattle.arena_list.specs.Steps.{greater, longer, both, spent}
 use Rattle.arena_list.proofs.Lists.{at_one, at_replaced, at_more, total-set}
@@ -99,7 +99,7 @@ module _ {V : Type 0} (m : Meter V) (k : Founding V) (s : State (Option V) (View
     abbrev New : ℕ → ℕ → Hand V → Type 0
     New j i g = IsHand m k.life r.core s.words s.homes r.holder place' j i g
 
-    based : v.base ≡ base k
+    based : v.base ≡ k
     based = (r.hands id 0 v (hand v) at (ap (λ l. get_elem? l 0) (rest_is v.hands some_hand))).0
 
     other_there : get_elem? firsts other ≡ some w
@@ -108,7 +108,7 @@ module _ {V : Type 0} (m : Meter V) (k : Founding V) (s : State (Option V) (View
     one_there : get_elem? views' id ≡ some one
     one_there = set_else firsts other id spent (λ e. apart (sym e)) ∙ at_replaced s.views id v one at
 
-    join_hands : (j i : ℕ) (u : View V) (g : Hand V) → get_elem? views' j ≡ some u → get_elem? u.hands i ≡ some g → (u.base ≡ base k) × New j i g
+    join_hands : (j i : ℕ) (u : View V) (g : Hand V) → get_elem? views' j ≡ some u → get_elem? u.hands i ≡ some g → (u.base ≡ k) × New j i g
     unfolding place'
     join_hands j i u g a b = ⊎_elim
         (λ t. absurd (some-ne-none g (sym b ∙ ap (λ (u : View V). get_elem? u.hands i) (sym t.1))))

@@ -14,8 +14,9 @@ use Rattle.arena_list.specs.Nodes.{node_word}
 use Rattle.arena_list.specs.Core.{Core}
 use Rattle.arena_list.specs.Words.{node_at, state_at}
 use Rattle.arena_list.specs.Views.{hand, first_hand}
-use Rattle.arena_list.specs.Founded.{Meter, Fits, base}
+use Rattle.arena_list.specs.Founded.{Meter, Fits}
 use Rattle.arena_list.specs.Rule.{Holds, HoldsAt, IsHand, Knows}
+use Rattle.arena_list.specs.Moments.{SeenList, SeenSize}
 use Rattle.arena_list.specs.Steps.{Sat, Sees, counted, looked, noted, next_link, saw_head, saw_node, stored_node}
 use Rattle.arena_list.proofs.Lists.{at_below, begins_itself}
 use Rattle.arena_list.proofs.Few.{few_nodes, fewer_nodes}
@@ -33,7 +34,7 @@ module _ {V : Type 0} (m : Meter V) (k : Founding V) where
 
   -- ---- what the stepping seat knows at that moment
   module _ (s : St) (r : Holds m k s) (id : ℕ) (v : View V) (at : get_elem? s.views id ≡ some v) (alone : length v.hands ≡ 1) where
-    pub own_hand : (v.base ≡ base k) × IsHand m k.life r.core s.words s.homes r.holder r.place id 0 (hand v)
+    pub own_hand : (v.base ≡ k) × IsHand m k.life r.core s.words s.homes r.holder r.place id 0 (hand v)
     own_hand = r.hands id 0 v (hand v) at (ap (λ l. get_elem? l 0) (hands_are v.hands alone))
 
     pub stays : Moves r.core r.holder s.words s.homes (hand v) r.core s.words s.homes
@@ -60,6 +61,13 @@ module _ {V : Type 0} (m : Meter V) (k : Founding V) where
       fewer = λ e. fewer_nodes r.holder r.core.joined (hand v).slot (hand v).who r.listed record { slot = own.slot; held = own.held } r.callers (own.spare e);
     }
 
+    -- the moment of a step, with the list and the sums that it shows
+    pub seen_list : SeenList m v.base v r.core.joined
+    seen_list = subst (λ (z : Founding V). SeenList m z v r.core.joined) (sym own_hand.0) record { state = s; id = id; moment = record { rule = r; stands = at }; nodes_are = refl }
+
+    pub seen_size : (slot used : ℕ) → used ≡ (r.core.standing slot).used → SeenSize m v.base v slot used
+    seen_size slot used is = subst (λ (z : Founding V). SeenSize m z v slot used) (sym own_hand.0) record { state = s; id = id; moment = record { rule = r; stands = at }; used_is = sym is }
+
     -- a step that changes no word leaves the rule, with another view of the same hand
     pub reviewed : (w : View V) → w.hands ≡ v.hands → w.base ≡ v.base → Knows r.core w → Holds m k record { words = s.words; homes = s.homes; views = set s.views id w }
     reviewed w hands bases knows = let one = hands_are v.hands alone in
@@ -69,13 +77,13 @@ module _ {V : Type 0} (m : Meter V) (k : Founding V) where
   pub loaded : (s : St) (i id : ℕ) (w : View V) → Holds m k record { words = s.words; homes = s.homes; views = set s.views id w } → Holds m k record { words = set s.words i (get_or s.words i 0); homes = s.homes; views = set s.views id w }
   loaded s i id w h = subst (λ (ws : List ℕ). Holds m k record { words = ws; homes = s.homes; views = set s.views id w }) (sym (set-get_or s.words i 0)) h
 
-  pub looks : (slots id : ℕ) (me : Sat V) → length me.0.hands ≡ 1 → Allows (Holds m k) slots id me 0 (λ n. n) (saw_head (step slots 0 0 0 none) me)
+  pub looks : (slots id : ℕ) (me : Sat V) → length me.0.hands ≡ 1 → Allows (Holds m k) slots id me 0 (λ n. n) (saw_head m (step slots 0 0 0 none) me)
   looks slots id me alone s r _ at _ = let v = me.0 in let w = looked v r.core.joined in let knows = r.known id v at in (
     w,
     keeps,
     tt,
     loaded s 0 id w (reviewed s r id v at alone w refl refl record { seen = begins_itself r.core.joined; room = knows.room; pasts = knows.pasts; sizes = knows.sizes }),
-    (refl, r.show.head, knows.seen, sees s r id v at alone),
+    (refl, r.show.head, knows.seen, sees s r id v at alone, seen_list s r id v at alone),
   )
 
   pub reads : (slots id word : ℕ) (me : Sat V) → length me.0.hands ≡ 1 → Allows (Holds m k) slots id me word (λ n. n) (saw_node (step slots word 0 0 none) me)

@@ -20,12 +20,13 @@ use Rattle.arena_list.specs.Words.{Show, node_at, state_at}
 use Rattle.arena_list.specs.Views.{hand}
 use Rattle.arena_list.specs.Founded.{Meter}
 use Rattle.arena_list.specs.Rule.{Holds, HoldsAt, IsHand}
+use Rattle.arena_list.specs.Moments.{SeenList}
 use Rattle.arena_list.specs.Steps.{Sat, Sees, looked, joined, next_link, own_node, tried_link}
 use Rattle.arena_list.proofs.Lists.{at_end, at_below, begins_itself, begins_on, begins_more}
 use Rattle.arena_list.proofs.Few.{few_nodes, listed_more, callers_more}
 use Rattle.arena_list.proofs.Links.{before_begins, one_head, begins_whole}
 use Rattle.arena_list.proofs.Moved.{Moves, moved}
-use Rattle.arena_list.proofs.Keeps.{hands_are, own_hand, sees, reviewed, loaded, hold_as}
+use Rattle.arena_list.proofs.Keeps.{hands_are, own_hand, sees, seen_list, reviewed, loaded, hold_as}
 use Rattle.atomic_table.proofs.Lists.{at_last}
 use Rattle.std.proofs.lemmas.Bool.{false≢true}
 use Rattle.std.proofs.lemmas.Option.{none-some}
@@ -114,7 +115,7 @@ module _ {V : Type 0} (m : Meter V) (k : Founding V) where
 
   pub links : (slots id old new : ℕ) (me : Sat V) → length me.0.hands ≡ 1 → (hand me.0).linked ≡ false → (hand me.0).noted ≡ Some (next_link me.0)
       → old ≡ head_of me.0.seen → new ≡ head_of (me.0.seen ++ own_node me.0 ∷ [])
-      → Allows (Holds m k) slots id me 0 (λ n. either (eqb n old) new n) (tried_link (step slots 0 old new none) me)
+      → Allows (Holds m k) slots id me 0 (λ n. either (eqb n old) new n) (tried_link m (step slots 0 old new none) me)
   links slots id old new me alone spare ready is_old is_new s r _ at _ = let v = me.0 in let n : ℕ = get_or s.words 0 0 in let knows = r.known id v at in
       dite (ℕ_discrete n old)
       (λ hit. let same : v.seen ≡ r.core.joined = one_head v.seen r.core.joined knows.seen (λ i n e. (r.listed i n e).slot) (sym is_old ∙ sym hit ∙ r.show.head) in (
@@ -122,7 +123,7 @@ module _ {V : Type 0} (m : Meter V) (k : Founding V) where
         keeps,
         tt,
         subst (λ (b : Bool). Holds m k (stepped s 0 (either b new n) id me.1 (joined v) keeps)) (sym (eq-eqb n old hit)) (linked_holds s r id v at alone spare same ready new is_new),
-        ((λ _. (refl, linked_sees s r id v at alone spare same ready)), λ not. absurd (not hit)),
+        ((λ _. (refl, linked_sees s r id v at alone spare same ready, subst (λ (l : List Node). SeenList m v.base v l) (sym same) (seen_list m k s r id v at alone))), λ not. absurd (not hit)),
       ))
       (λ miss. let w = looked v r.core.joined in (
         w,
@@ -130,7 +131,7 @@ module _ {V : Type 0} (m : Meter V) (k : Founding V) where
         tt,
         subst (λ (b : Bool). Holds m k (stepped s 0 (either b new n) id me.1 w keeps)) (sym (ne_eqb n old miss))
             (loaded m k s 0 id w (reviewed m k s r id v at alone w refl refl record { seen = begins_itself r.core.joined; room = knows.room; pasts = knows.pasts; sizes = knows.sizes })),
-        ((λ hit. absurd (miss hit)), λ _. ((refl, r.show.head, knows.seen, sees m k s r id v at alone), longer_by s r id v at miss is_old)),
+        ((λ hit. absurd (miss hit)), λ _. ((refl, r.show.head, knows.seen, sees m k s r id v at alone, seen_list m k s r id v at alone), longer_by s r id v at miss is_old)),
       )) where
         longer_by : (s : St) (r : Holds m k s) (id : ℕ) (v : View V) → get_elem? s.views id ≡ some v → get_or s.words 0 0 ≢ old → old ≡ head_of v.seen → length v.seen < length r.core.joined
         longer_by s r id v at miss is = let knows = r.known id v at in let b = knows.seen.short in dite (ℕ_discrete (length v.seen) (length r.core.joined))

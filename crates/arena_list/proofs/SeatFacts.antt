@@ -83,7 +83,7 @@ module _ {V : Type 0} (m : Meter V) {caller slot used head : ℕ} {linked : Bool
   }
 
   -- after a look
-  pub seated_look : (st : Step (Option V)) (r : ℕ) (me' : Sat V) → saw_head st me r me' → IsSeated m caller slot linked used head me → IsSeated m caller slot linked used r me'
+  pub seated_look : (st : Step (Option V)) (r : ℕ) (me' : Sat V) → saw_head m st me r me' → IsSeated m caller slot linked used head me → IsSeated m caller slot linked used r me'
   seated_look st r me' told o = let s = told.3 in seated_as r me' (ap (λ (x : Sat V). x.0.hands) told.0) (ap (λ (x : Sat V). x.1) told.0) told.1 (before_small me'.0.seen s.small (length me'.0.seen)) s.few
       (λ e. s.fewer (sym o.linked_is ∙ e)) o
 
@@ -107,8 +107,8 @@ module _ {V : Type 0} (m : Meter V) {caller slot used head : ℕ} {linked : Bool
 
   -- the exchange of the head, after that store
   pub link_step : (k : Founding V) (slots id new : ℕ) (me' : Sat V) → IsSeated m caller slot linked used head me → linked ≡ false → me' ≡ (noted me.0, me.1) → new ≡ (head / 2 ^ 32 + 1) * 2 ^ 32 + slot + 1
-      → Allows (Holds m k) slots id me' 0 (λ n. either (eqb n head) new n) (tried_link (step slots 0 head new none) me')
-  link_step k slots id new me' o spare after is = subst (λ (x : Sat V). Allows (Holds m k) slots id x 0 (λ n. either (eqb n head) new n) (tried_link (step slots 0 head new none) x)) (sym after)
+      → Allows (Holds m k) slots id me' 0 (λ n. either (eqb n head) new n) (tried_link m (step slots 0 head new none) me')
+  link_step k slots id new me' o spare after is = subst (λ (x : Sat V). Allows (Holds m k) slots id x 0 (λ n. either (eqb n head) new n) (tried_link m (step slots 0 head new none) x)) (sym after)
       (links m k slots id head new (noted me.0, me.1) refl (sym o.linked_is ∙ spare) refl o.head_is
       (let h = head_more me.0.seen (own_node me.0) in let c = head_count o in let s = o.slot_is in omega arith))
 
@@ -131,7 +131,7 @@ module _ {V : Type 0} (m : Meter V) {caller slot used head : ℕ} {linked : Bool
   }
 
   -- after one that showed a longer list
-  pub seated_missed : (st : Step (Option V)) (r : ℕ) (me1 me' : Sat V) → IsSeated m caller slot linked used head me → me1 ≡ (noted me.0, me.1) → saw_head st me1 r me' → IsSeated m caller slot linked used r me'
+  pub seated_missed : (st : Step (Option V)) (r : ℕ) (me1 me' : Sat V) → IsSeated m caller slot linked used head me → me1 ≡ (noted me.0, me.1) → saw_head m st me1 r me' → IsSeated m caller slot linked used r me'
   seated_missed st r me1 me' o after told = let s = told.3 in let v = me'.0 in let at : me' ≡ (looked (noted me.0) v.seen, me.1) = told.0 ∙ ap (λ (x : Sat V). (looked x.0 v.seen, x.1)) after in
       let h : hand me'.0 ≡ hand (noted me.0) = ap (λ (x : Sat V). hand x.0) at in record {
         one = ap (λ (x : Sat V). length x.0.hands) at;

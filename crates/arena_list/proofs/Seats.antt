@@ -13,7 +13,7 @@ use Rattle.arena_list.specs.declared.view.View.{View}
 use Rattle.arena_list.specs.Core.{Core}
 use Rattle.arena_list.specs.Views.{hand, first_hand}
 use Rattle.arena_list.specs.declared.entry.Entry.{Entry}
-use Rattle.arena_list.specs.Founded.{Meter, base}
+use Rattle.arena_list.specs.Founded.{Meter}
 use Rattle.arena_list.specs.Rule.{Holds, IsHand, Knows, IsWard, Stands, hand_count}
 use Rattle.arena_list.specs.Steps.{dealt, undealt, rest_of}
 use Rattle.arena_list.proofs.Lists.{at_only, at_one, at_replaced, at_end, at_more, total-set, total-more}
@@ -103,7 +103,7 @@ module _ {V : Type 0} (m : Meter V) (k : Founding V) (s : State (Option V) (View
     first : get_elem? v.hands 0 ≡ some h
     first = ap (λ l. get_elem? l 0) is
 
-    own : (v.base ≡ base k) × Old id 0 h
+    own : (v.base ≡ k) × Old id 0 h
     own = r.hands id 0 v h at first
 
     place' : ℕ → maybe.Option (ℕ × ℕ)
@@ -118,7 +118,7 @@ module _ {V : Type 0} (m : Meter V) (k : Founding V) (s : State (Option V) (View
     in_rest : (i : ℕ) (g : Hand V) → get_elem? hs i ≡ some g → get_elem? v.hands (suc i) ≡ some g
     in_rest i g e = ap (λ l. get_elem? l (suc i)) is ∙ e
 
-    split_hands : (j i : ℕ) (u : View V) (g : Hand V) → get_elem? (lefts ++ right ∷ []) j ≡ some u → get_elem? u.hands i ≡ some g → (u.base ≡ base k) × New j i g
+    split_hands : (j i : ℕ) (u : View V) (g : Hand V) → get_elem? (lefts ++ right ∷ []) j ≡ some u → get_elem? u.hands i ≡ some g → (u.base ≡ k) × New j i g
     unfolding place'
     split_hands j i u g a b = ⊎_elim
         (λ t. ⊎_elim

@@ -22,9 +22,10 @@ use Rattle.arena_list.specs.Views.{hand}
 use Rattle.arena_list.specs.Founded.{Meter, Fits}
 use Rattle.arena_list.specs.Rule.{Holds, HoldsAt, IsHand, Knows}
 use Rattle.arena_list.specs.Steps.{Sat, held, settled, sized, used_now, took, claimed, gave, saw_size}
+use Rattle.arena_list.specs.Moments.{SeenSize}
 use Rattle.arena_list.proofs.Lists.{begins_itself}
 use Rattle.arena_list.proofs.Moved.{Homes, Moves, moved}
-use Rattle.arena_list.proofs.Keeps.{hands_are, own_hand, reviewed, loaded}
+use Rattle.arena_list.proofs.Keeps.{hands_are, own_hand, seen_size, reviewed, loaded}
 
 -- a function with another value at one number
 upd : {A : Type 0} → (ℕ → A) → ℕ → A → ℕ → A
@@ -212,6 +213,7 @@ module _ {V : Type 0} (m : Meter V) (k : Founding V) where
           (let a = knows.sizes slot in subst (λ (z : ℕ). slice_index v.sizes z ≤ word / 2) same (omega arith)),
           subst (λ (z : ℕ). slice_index (set v.sizes z (word / 2)) z ≡ word / 2) same (get_or-set_same v.sizes slot (word / 2) 0 room),
           λ mine. found ∙ ap (λ (z : ℕ). (r.core.standing z).used) (same ∙ mine) ∙ shows_used s r id v at alone h.hold o.hold,
+          subst (λ (z : ℕ). SeenSize m v.base v z (word / 2)) same (seen_size m k s r id v at alone slot (word / 2) found),
         ),
       ) where
         half : (n : ℕ) (x : Standing) → n ≡ state_word x → n / 2 ≡ x.used

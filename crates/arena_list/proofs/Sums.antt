@@ -13,8 +13,9 @@ use Rattle.arena_list.specs.declared.view.View.{View}
 use Rattle.arena_list.specs.Nodes.{node, before, node_word, Begins}
 use Rattle.arena_list.specs.Views.{hand, out, shown, sum_seen}
 use Rattle.arena_list.specs.Founded.{Meter}
+use Rattle.arena_list.specs.Moments.{SeenList, SeenSize}
 use Rattle.arena_list.specs.Steps.{Sees, looked, counted, settled, sized, used_now}
-use Rattle.arena_list.specs.Calls.{IsSumming, HasSummed}
+use Rattle.arena_list.specs.Calls.{WasShown, IsSumming, HasSummed}
 use Rattle.arena_list.proofs.Lists.{at_there, at_one, at_below, begins_itself}
 use Rattle.arena_list.proofs.Links.{before_at, before_small, past_end}
 use Rattle.arena_list.proofs.SeatFacts.{mine_tells}
@@ -62,6 +63,28 @@ sum_one sizes [] k n e = absurd (some-ne-none n (sym e))
 sum_one sizes (x ∷ xs) zero n e = let is : slice_index sizes x.slot ≡ slice_index sizes n.slot = ap (λ (y : Node). slice_index sizes y.slot) (some-injective x n e) in omega arith
 sum_one sizes (x ∷ xs) (suc k) n e = let r = sum_one sizes xs k n e in omega arith
 
+-- what was shown by one view was shown by a later one of the same list
+shown_on : {V : Type 0} (m : Meter V) (v w u : View V) (slot used : ℕ) → WasShown m v w slot used → w.list_steps ≤ u.list_steps → u.seen ≡ w.seen → u.base ≡ w.base → WasShown m v u slot used
+shown_on m v w u slot used o later seen base = record {
+  view = o.view;
+  after = o.after;
+  until = (let a = o.until in omega arith);
+  seen = o.seen ∙ sym seen;
+  base = o.base ∙ sym base;
+  moment = o.moment;
+}
+
+-- and after an earlier one
+shown_since : {V : Type 0} (m : Meter V) (old v w : View V) (slot used : ℕ) → old.list_steps ≤ v.list_steps → WasShown m v w slot used → WasShown m old w slot used
+shown_since m old v w slot used before o = record {
+  view = o.view;
+  after = (let a = o.after in omega arith);
+  until = o.until;
+  seen = o.seen;
+  base = o.base;
+  moment = o.moment;
+}
+
 module _ {V : Type 0} (m : Meter V) (v : View V) (sees : Sees (hand v) v.seen) where
   pub sum_starts : (left link : ℕ) → left ≡ length v.seen → link ≡ before v.seen (length v.seen) → IsSumming m v v left link 0
   sum_starts left link is at = record {
@@ -73,6 +96,7 @@ module _ {V : Type 0} (m : Meter V) (v : View V) (sees : Sees (hand v) v.seen) w
     small = omega arith;
     grown = λ slot. omega arith;
     own = λ k n low e mine. absurd (let b = at_below v.seen k n e in omega arith);
+    shown = λ k n low e. absurd (let b = at_below v.seen k n e in omega arith);
   }
 
   pub sum_node : (w : View V) (left link sum : ℕ) → IsSumming m v w left link sum → 0 < left → (n : Node) × (get_elem? v.seen (left - 1) ≡ some n) × (link ≡ n.slot + 1) × (n.slot < 64)
@@ -84,9 +108,9 @@ module _ {V : Type 0} (m : Meter V) (v : View V) (sees : Sees (hand v) v.seen) w
   -- one node more
   pub sum_goes : (w x u : View V) (left link sum word used slot : ℕ) → IsSumming m v w left link sum → 0 < left → x ≡ counted w
       → ((k : ℕ) (n : Node) → get_elem? w.seen k ≡ some n → slot ≡ n.slot → word ≡ node_word n.caller (before w.seen k))
-      → slot ≡ link - 1 → u ≡ sized x slot used → slice_index x.sizes slot ≤ used → slice_index u.sizes slot ≡ used → (slot ≡ (hand x).slot → used ≡ used_now m (out x)) → used < 2 ^ 63
+      → slot ≡ link - 1 → u ≡ sized x slot used → slice_index x.sizes slot ≤ used → slice_index u.sizes slot ≡ used → (slot ≡ (hand x).slot → used ≡ used_now m (out x)) → used < 2 ^ 63 → SeenSize m x.base x slot used
       → IsSumming m v u (left - 1) (word % 2 ^ 32) (sum + used)
-  sum_goes w x u left link sum word used slot o h count read at step more here own low = let t = sum_node w left link sum o h in let n = t.0 in
+  sum_goes w x u left link sum word used slot o h count read at step more here own low moment = let t = sum_node w left link sum o h in let n = t.0 in
       let seen : w.seen ≡ v.seen = ap (λ (z : View V). z.seen) o.same in
       let slot_is : slot ≡ n.slot = (let a = t.2 in omega arith) in
       let is : word ≡ node_word n.caller (before v.seen (left - 1)) = read (left - 1) n (ap (λ (l : List Node). get_elem? l (left - 1)) seen ∙ t.1) slot_is ∙ ap (λ (l : List Node). node_word n.caller (before l (left - 1))) seen in
@@ -114,17 +138,35 @@ module _ {V : Type 0} (m : Meter V) (v : View V) (sees : Sees (hand v) v.seen) w
             (λ (ne : k ≢ left - 1). let before_this = o.own k y (omega arith) e mine in
             let apart : y.slot ≢ slot = (λ (same : y.slot ≡ slot). let one = sees.slots k (left - 1) y n e t.1 (same ∙ slot_is) in ne one) in
             ap (λ (l : List ℕ). slice_index l y.slot) sizes ∙ get_or-set_other w.sizes slot y.slot used 0 apart ∙ before_this);
+        shown = λ k y high e. dite (ℕ_discrete k (left - 1))
+            (λ (same : k ≡ left - 1). let one : y ≡ n = at_one v.seen k y n e (ap (get_elem? v.seen) same ∙ t.1) in
+            let at_y : y.slot ≡ slot = ap (λ (z : Node). z.slot) one ∙ sym slot_is in
+            subst (λ (z : ℕ). WasShown m v u z (slice_index u.sizes z)) (sym at_y) (subst (λ (z : ℕ). WasShown m v u slot z) (sym here) record {
+              view = x;
+              after = (let a = o.steps in let b = o.within in let c : x.list_steps ≡ w.list_steps + 1 = ap (λ (z : View V). z.list_steps) count in omega arith);
+              until = (let b : u.list_steps ≡ x.list_steps = ap (λ (z : View V). z.list_steps) step in omega arith);
+              seen = sym (ap (λ (z : View V). z.seen) step);
+              base = sym (ap (λ (z : View V). z.base) step);
+              moment = moment;
+            }))
+            (λ (ne : k ≢ left - 1). let was = o.shown k y (omega arith) e in
+            let apart : y.slot ≢ slot = (λ (same : y.slot ≡ slot). let one = sees.slots k (left - 1) y n e t.1 (same ∙ slot_is) in ne one) in
+            let kept : slice_index u.sizes y.slot ≡ slice_index w.sizes y.slot = ap (λ (l : List ℕ). slice_index l y.slot) sizes ∙ get_or-set_other w.sizes slot y.slot used 0 apart in
+            subst (λ (z : ℕ). WasShown m v u y.slot z) (sym kept) (shown_on m v w u y.slot (slice_index w.sizes y.slot) was (let b : u.list_steps ≡ w.list_steps + 1 = ap (λ (z : View V). z.list_steps) step ∙ ap (λ (z : View V). z.list_steps) count in omega arith)
+            (ap (λ (z : View V). z.seen) step ∙ ap (λ (z : View V). z.seen) count) (ap (λ (z : View V). z.base) step ∙ ap (λ (z : View V). z.base) count)));
       }
 
   -- all nodes are added
-  pub sum_ends : (old w : View V) (link sum : ℕ) → v ≡ looked old v.seen → Begins old.seen v.seen → IsSumming m v w 0 link sum → HasSummed m old w sum
-  sum_ends old w link sum look begins o = let seen : w.seen ≡ v.seen = ap (λ (z : View V). z.seen) o.same in let hand_is : hand w ≡ hand v = ap (λ (z : View V). hand z) o.same in
+  pub sum_ends : (old w : View V) (link sum : ℕ) → v ≡ looked old v.seen → Begins old.seen v.seen → SeenList m old.base old v.seen → IsSumming m v w 0 link sum → HasSummed m old w sum
+  sum_ends old w link sum look begins moment o = let seen : w.seen ≡ v.seen = ap (λ (z : View V). z.seen) o.same in let hand_is : hand w ≡ hand v = ap (λ (z : View V). hand z) o.same in
       let all : sum ≡ sum_seen w.sizes w.seen = o.sum_is ∙ ap (sum_seen w.sizes) (sym seen) in
       let began : v.list_steps ≡ old.list_steps + 1 = ap (λ (z : View V). z.list_steps) look in
       let sizes : v.sizes ≡ old.sizes = ap (λ (z : View V). z.sizes) look in
       let grown : (slot : ℕ) → slice_index old.sizes slot ≤ slice_index w.sizes slot = (λ (slot : ℕ). let a = o.grown slot in let b : slice_index v.sizes slot ≡ slice_index old.sizes slot = ap (λ (l : List ℕ). slice_index l slot) sizes in omega arith) in
       let on : Begins old.seen w.seen = subst (λ (l : List Node). Begins old.seen l) (sym seen) begins in record {
+        looked = subst (λ (l : List Node). SeenList m old.base old l) (sym seen) moment;
         sum_is = all;
+        each = λ i n e. shown_since m old v w n.slot (slice_index w.sizes n.slot) (omega arith) (o.shown i n (omega arith) (ap (λ (l : List Node). get_elem? l i) (sym seen) ∙ e));
         own = λ slot is. let told = mine_tells w slot is in let there = sees.linked (ap (λ (h : Hand V). h.linked) (sym hand_is) ∙ told.0) in
             let used = o.own there.0 (node (hand v).slot (hand v).who) (omega arith) there.1 refl in
             let one = sum_one w.sizes w.seen there.0 (node (hand v).slot (hand v).who) (ap (λ (l : List Node). get_elem? l there.0) seen ∙ there.1) in

@@ -11,10 +11,13 @@ use Rattle.arena_list.specs.declared.view.Hand.{Hand}
 use Rattle.arena_list.specs.declared.view.View.{View}
 use Rattle.arena_list.specs.Nodes.{node, before, head_of, node_word, Begins}
 use Rattle.arena_list.specs.Views.{hand, who, mine, spare, when, unless}
+use Rattle.arena_list.specs.Founded.{Meter}
+use Rattle.arena_list.specs.Moments.{SeenList}
 use Rattle.arena_list.specs.Steps.{Sees, looked, counted, noted, own_node, joined}
-use Rattle.arena_list.specs.Calls.{HasFound, HasTried, HasJoined, IsWalking}
+use Rattle.arena_list.specs.Calls.{Lacks, HasFound, HasTried, HasJoined, IsWalking}
 use Rattle.arena_list.proofs.Lists.{at_below, at_there, at_one, begins_itself, begins_on, begins_more}
 use Rattle.arena_list.proofs.Links.{before_at, before_small}
+use Rattle.arena_list.proofs.Keeps.{own_hand}
 use Rattle.arena_list.proofs.Sums.{shown_grows}
 
 module _ {V : Type 0} (v : View V) (sees : Sees (hand v) v.seen) where
@@ -78,15 +81,16 @@ module _ {V : Type 0} (v : View V) (sees : Sees (hand v) v.seen) where
       (cases_Bool (hand v).linked)
 
   -- it is: the caller's slot
-  pub walk_finds : (old w u : View V) (left link word slot : ℕ) → v ≡ looked old v.seen → Begins old.seen v.seen → IsWalking v w left link → 0 < left → u ≡ counted w
+  pub walk_finds : (m : Meter V) (old w u : View V) (left link word slot : ℕ) → v ≡ looked old v.seen → Begins old.seen v.seen → SeenList m old.base old v.seen → IsWalking v w left link → 0 < left → u ≡ counted w
       → ((k : ℕ) (n : Node) → get_elem? w.seen k ≡ some n → link - 1 ≡ n.slot → word ≡ node_word n.caller (before w.seen k))
-      → word / 2 ^ 32 ≡ who v → slot ≡ link - 1 → HasFound old u (Some slot)
-  walk_finds old w u left link word slot look begins o h step read own at = let t = walk_read w left link word o h read in let n = t.0 in let c : n.caller ≡ who v = sym t.3 ∙ own in
+      → word / 2 ^ 32 ≡ who v → slot ≡ link - 1 → HasFound m old u (Some slot)
+  walk_finds m old w u left link word slot look begins moment o h step read own at = let t = walk_read w left link word o h read in let n = t.0 in let c : n.caller ≡ who v = sym t.3 ∙ own in
       let seen : u.seen ≡ v.seen = ap (λ (x : View V). x.seen) step ∙ ap (λ (x : View V). x.seen) o.same in
       let same_hand : hand u ≡ hand v = ap (λ (x : View V). hand x) step ∙ walk_hand w left link o in
       let n_is : n ≡ node slot (who u) = (λ i. node ((sym t.2 ∙ sym at) i) ((c ∙ ap (λ (h : Hand V). h.who) (sym same_hand)) i)) in
       let slots = own_slot (left - 1) n t.1 c in
       let steps : u.list_steps ≡ w.list_steps + 1 = ap (λ (x : View V). x.list_steps) step in let began : v.list_steps ≡ old.list_steps + 1 = ap (λ (x : View V). x.list_steps) look in record {
+        looked = subst (λ (l : List Node). SeenList m old.base old l) (sym seen) moment;
         found = (left - 1, ap (λ (l : List Node). get_elem? l (left - 1)) seen ∙ t.1 ∙ ap some n_is);
         none = tt;
         earlier = shown_grows old u (subst (λ (l : List Node). Begins old.seen l) (sym seen) begins) (ap (λ (x : View V). x.sizes) step ∙ ap (λ (x : View V). x.sizes) o.same ∙ ap (λ (x : View V). x.sizes) look);
@@ -101,9 +105,10 @@ module _ {V : Type 0} (v : View V) (sees : Sees (hand v) v.seen) where
       }
 
   -- no node was the caller's
-  pub walk_ends : (old w : View V) (link : ℕ) → v ≡ looked old v.seen → Begins old.seen v.seen → IsWalking v w 0 link → HasFound old w None
-  walk_ends old w link look begins o = let seen : w.seen ≡ v.seen = ap (λ (x : View V). x.seen) o.same in let same_hand = walk_hand w 0 link o in
+  pub walk_ends : (m : Meter V) (old w : View V) (link : ℕ) → v ≡ looked old v.seen → Begins old.seen v.seen → SeenList m old.base old v.seen → IsWalking v w 0 link → HasFound m old w None
+  walk_ends m old w link look begins moment o = let seen : w.seen ≡ v.seen = ap (λ (x : View V). x.seen) o.same in let same_hand = walk_hand w 0 link o in
       let began : v.list_steps ≡ old.list_steps + 1 = ap (λ (x : View V). x.list_steps) look in record {
+        looked = subst (λ (l : List Node). SeenList m old.base old l) (sym seen) moment;
         found = tt;
         earlier = shown_grows old w (subst (λ (l : List Node). Begins old.seen l) (sym seen) begins) (ap (λ (x : View V). x.sizes) o.same ∙ ap (λ (x : View V). x.sizes) look);
         none = λ k n e. λ c. o.past k n (omega arith) (ap (λ (l : List Node). get_elem? l k) (sym seen) ∙ e) (c ∙ ap (λ (h : Hand V). h.who) same_hand);
@@ -137,12 +142,16 @@ module _ {V : Type 0} (v : View V) where
     base = ap (λ (x : View V). x.base) is ∙ o.base;
   }
 
-  pub tries_end : (w u : View V) (slot : ℕ) → HasTried v w → u ≡ joined (noted w) → (hand v).linked ≡ false → length u.seen ≤ 64 → slot ≡ (hand v).slot → HasJoined v u slot
-  tries_end w u slot o is spare few at = let steps : u.list_steps ≡ w.list_steps + 1 + 1 = ap (λ (x : View V). x.list_steps) is in
-      let long : length u.seen ≡ length w.seen + 1 = ap (λ (x : View V). length x.seen) is ∙ length-append w.seen (node (hand w).slot (hand w).who ∷ []) in record {
+  pub tries_end : (m : Meter V) (w u : View V) (slot : ℕ) → HasTried v w → u ≡ joined (noted w) → SeenList m w.base (noted w) w.seen → (hand v).linked ≡ false → length u.seen ≤ 64 → slot ≡ (hand v).slot → HasJoined m v u slot
+  tries_end m w u slot o is seen spare few at = let steps : u.list_steps ≡ w.list_steps + 1 + 1 = ap (λ (x : View V). x.list_steps) is in
+      let long : length u.seen ≡ length w.seen + 1 = ap (λ (x : View V). length x.seen) is ∙ length-append w.seen (node (hand w).slot (hand w).who ∷ []) in
+      -- the list of that moment has no node of the seat's caller, who has a spare
+      let own = (own_hand m w.base seen.state seen.moment.rule seen.id (noted w) seen.moment.stands refl).1 in
+      let no_node : Lacks w.seen (who v) = (λ k n e c. own.spare (o.linked ∙ spare) k n (ap (λ (l : List Node). get_elem? l k) seen.nodes_are ∙ e) (c ∙ sym o.who_is)) in record {
         was_spare = ap (λ (b : Bool). unless b (hand v).slot) spare ∙ ap Some (sym at);
         mine_is = ap (λ (x : View V). mine x) is ∙ ap Some (o.slot ∙ sym at);
-        appended = (w.seen, o.seen, ap (λ (x : View V). x.seen) is ∙ (λ i. w.seen ++ node ((o.slot ∙ sym at) i) (o.who_is i) ∷ []));
+        appended = (w.seen, o.seen, no_node, ap (λ (x : View V). x.seen) is ∙ (λ i. w.seen ++ node ((o.slot ∙ sym at) i) (o.who_is i) ∷ []));
+        looked = (noted w, is, seen);
         steps = (let a = o.steps in omega arith);
         few = few;
         earlier = shown_grows v u (subst (λ (l : List Node). Begins v.seen l) (ap (λ (x : View V). x.seen) (sym is)) (begins_on o.seen (begins_more w.seen (own_node w ∷ [])))) (ap (λ (x : View V). x.sizes) is ∙ o.sizes);

@@ -1,5 +1,5 @@
 -- What each call of a list makes of its seat's view.
-use Rattle.std.specs.Prelude.{◌≡◌, ◌≢◌, ℕ, ◌+◌, ◌*◌, ◌^◌, ◌≤◌, List, [], ◌∷◌, ◌++◌, Option, Some, IfSome, IfNone, length, drop, slice_index}
+use Rattle.std.specs.Prelude.{◌≡◌, ◌≢◌, ℕ, ◌+◌, ◌*◌, ◌^◌, ◌<◌, ◌≤◌, List, [], ◌∷◌, ◌++◌, Option, Some, IfSome, IfNone, length, drop, slice_index}
 use mathlib.Core.Option.{some}
 use lib.ListN.{get_elem?}
 use Rattle.arena_list.specs.declared.view.Node.{Node}
@@ -7,7 +7,8 @@ use Rattle.arena_list.specs.declared.view.View.{View}
 use Rattle.arena_list.specs.Nodes.{node, before, Begins, HasNode}
 use Rattle.arena_list.specs.Views.{hand, who, mine, spare, out, shown, sum_seen}
 use Rattle.arena_list.specs.Founded.{Meter}
-use Rattle.arena_list.specs.Steps.{used_now}
+use Rattle.arena_list.specs.Moments.{SeenList, SeenSize}
+use Rattle.arena_list.specs.Steps.{joined, used_now}
 
 -- no node of the caller stands in the list
 abbrev pub Lacks : List Node → ℕ → Type 0
@@ -15,7 +16,9 @@ Lacks nodes who = (k : ℕ) (n : Node) → get_elem? nodes k ≡ some n → n.ca
 
 module _ {V : Type 0} where
   -- `find` looked once at the list, which is what the seat has seen of it from then on, and walked it
-  pub record HasFound (v w : View V) (answer : Option ℕ) : Type 0 where
+  pub record HasFound (m : Meter V) (v w : View V) (answer : Option ℕ) : Type 0 where
+    -- the list had these nodes at the look, when the seat's view was still the one before
+    pub looked : SeenList m v.base v w.seen
     -- None exactly where no node of the caller stood in the list
     pub found : IfSome answer (λ slot. HasNode w.seen slot (who w))
     pub none : IfNone answer (Lacks w.seen (who w))
@@ -43,10 +46,12 @@ module _ {V : Type 0} where
     pub base : w.base ≡ v.base
 
   -- `join` appended the caller's one node to the list, which is what the seat has seen of it from then on
-  pub record HasJoined (v w : View V) (slot : ℕ) : Type 0 where
+  pub record HasJoined (m : Meter V) (v w : View V) (slot : ℕ) : Type 0 where
     pub was_spare : spare v ≡ Some slot
     pub mine_is : mine w ≡ Some slot
-    pub appended : (nodes : List Node) × Begins v.seen nodes × (w.seen ≡ nodes ++ node slot (who v) ∷ [])
+    pub appended : (nodes : List Node) × Begins v.seen nodes × Lacks nodes (who v) × (w.seen ≡ nodes ++ node slot (who v) ∷ [])
+    -- the list had the nodes before it when the exchange appended it
+    pub looked : (u : View V) × (w ≡ joined u) × SeenList m u.base u u.seen
     -- two steps for each exchange, of which each that failed showed a longer list
     pub steps : w.list_steps + 2 * length v.seen ≤ v.list_steps + 2 * length w.seen
     pub few : length w.seen ≤ 64
@@ -65,6 +70,15 @@ module _ {V : Type 0} where
     pub past : (k : ℕ) (n : Node) → left ≤ k → get_elem? v.seen k ≡ some n → n.caller ≢ who v
 
 module _ {V : Type 0} where
+  -- the slot's state showed this used sum at a moment between these views, when the seat had seen the list that it has seen in the end
+  pub record WasShown (m : Meter V) (v w : View V) (slot used : ℕ) : Type 0 where
+    pub view : View V
+    pub after : v.list_steps < view.list_steps
+    pub until : view.list_steps ≤ w.list_steps
+    pub seen : view.seen ≡ w.seen
+    pub base : view.base ≡ w.base
+    pub moment : SeenSize m view.base view slot used
+
   -- a walk that adds up what the states show: `left` nodes are to come
   pub record IsSumming (m : Meter V) (v w : View V) (left link sum : ℕ) : Type 0 where
     pub same : w ≡ record v { list_steps = w.list_steps; sizes = w.sizes }
@@ -75,10 +89,15 @@ module _ {V : Type 0} where
     pub small : sum + left * 2 ^ 63 ≤ length v.seen * 2 ^ 63
     pub grown : (slot : ℕ) → slice_index v.sizes slot ≤ slice_index w.sizes slot
     pub own : (k : ℕ) (n : Node) → left ≤ k → get_elem? v.seen k ≡ some n → n.slot ≡ (hand v).slot → slice_index w.sizes n.slot ≡ used_now m (out v)
+    pub shown : (k : ℕ) (n : Node) → left ≤ k → get_elem? v.seen k ≡ some n → WasShown m v w n.slot (slice_index w.sizes n.slot)
 
   -- `sizes` looked once at the list, walked it, and added up what the state of each node showed
   pub record HasSummed (m : Meter V) (v w : View V) (answer : ℕ) : Type 0 where
+    -- the list had these nodes at the look, when the seat's view was still the one before
+    pub looked : SeenList m v.base v w.seen
     pub sum_is : answer ≡ shown w
+    -- what is added for a node is what its slot's state showed after the look
+    pub each : (k : ℕ) (n : Node) → get_elem? w.seen k ≡ some n → WasShown m v w n.slot (slice_index w.sizes n.slot)
     -- at least the caller's own part
     pub own : (slot : ℕ) → mine w ≡ Some slot → used_now m (out w) ≤ answer
     -- at least each earlier answer, since what a seat was shown never falls

@@ -9,7 +9,6 @@ use Rattle.arena_list.specs.declared.founding.Founding.{Founding}
 use Rattle.arena_list.specs.declared.view.Node.{Node}
 use Rattle.arena_list.specs.declared.view.Hold.TheVariants.{Vacant}
 use Rattle.arena_list.specs.declared.view.Hand.{Hand}
-use Rattle.arena_list.specs.declared.view.Base.{Base}
 use Rattle.arena_list.specs.declared.view.View.{View}
 use Rattle.arena_list.specs.Nodes.{node, before, head_of, node_word}
 use Rattle.arena_list.specs.Words.{node_at, state_at}
@@ -59,9 +58,6 @@ module _ {V : Type 0} where
   abbrev pub without : List (Entry V) → List ℕ → List ℕ
   without entries callers = filter (λ c. not (has (map caller entries) c)) callers
 
-  abbrev pub base : Founding V → Base V
-  base k = record { callers = k.callers.items; others = others_of k.linked.items k.callers.items }
-
   abbrev pub fresh : Bool → Entry V → Hand V
   fresh linked e = record { who = e.caller; slot = e.slot; linked = linked; noted = None; hold = Vacant }
 
@@ -78,7 +74,7 @@ module _ {V : Type 0} where
   hand_for k who = hand_from k.linked.items k.spare.items who
 
   abbrev pub first_view : Founding V → View V
-  first_view k = record { hands = map (hand_for k) k.callers.items; seen = map node_of k.linked.items; list_steps = 0; sizes = replicate 64 0; base = base k; pasts = [] }
+  first_view k = record { hands = map (hand_for k) k.callers.items; seen = map node_of k.linked.items; list_steps = 0; sizes = replicate 64 0; base = k; pasts = [] }
 
   -- a part fits its slot: it has the caller as its owner, this life, and a used sum that a word can show
   pub record Fits (m : Meter V) (life who : ℕ) (part : V) : Type 0 where

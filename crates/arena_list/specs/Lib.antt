@@ -4,6 +4,7 @@ pub mod Words
 pub mod Founded
 pub mod Core
 pub mod Rule
+pub mod Moments
 pub mod Steps
 pub mod Calls
 pub mod Seats

@@ -9,7 +9,7 @@ use Rattle.arena_list.specs.declared.founding.Founding.{Founding}
 use Rattle.arena_list.specs.declared.list.ListSeat.{ListSeat}
 use Rattle.arena_list.specs.declared.view.Hold.TheVariants.{Filling}
 use Rattle.arena_list.specs.declared.view.View.{View}
-use Rattle.arena_list.specs.Founded.{Meter, entry_of, hand_for, node_of, base, others_of}
+use Rattle.arena_list.specs.Founded.{Meter, entry_of, hand_for, node_of, others_of}
 use Rattle.arena_list.specs.Steps.{settled}
 use Rattle.arena_list.specs.declared.list.ArenaList.{ArenaList}
 use Rattle.arena_list.specs.Seats.{view, IsSeatOf}
@@ -17,7 +17,7 @@ use Rattle.arena_list.specs.Seats.{view, IsSeatOf}
 module _ {V : Type 0} where
   -- the view of a caller's seat whose slot isn't filled yet
   abbrev pub claimed_view : Founding V → ℕ → View V
-  claimed_view k who = record { hands = record (hand_for k who) { hold = Filling } ∷ []; seen = map node_of k.linked.items; list_steps = 0; sizes = replicate 64 0; base = base k; pasts = [] }
+  claimed_view k who = record { hands = record (hand_for k who) { hold = Filling } ∷ []; seen = map node_of k.linked.items; list_steps = 0; sizes = replicate 64 0; base = k; pasts = [] }
 
   abbrev pub given : Meter V → View V → Option (Entry V) → View V
   given m v None = v

@@ -14,7 +14,7 @@ use Rattle.arena_list.specs.declared.view.View.{View}
 use Rattle.arena_list.specs.Nodes.{node, node_word, Begins}
 use Rattle.arena_list.specs.Core.{Core, rests, away, IsListed, CallersDiffer}
 use Rattle.arena_list.specs.Words.{Show, node_at}
-use Rattle.arena_list.specs.Founded.{Meter, Fits, base, node_of, others_of}
+use Rattle.arena_list.specs.Founded.{Meter, Fits, node_of, others_of}
 
 -- a number of each view, added up
 abbrev pub total : {A : Type 0} → (A → ℕ) → List A → ℕ
@@ -78,7 +78,7 @@ module _ {V : Type 0} where
     pub callers : CallersDiffer core.joined
     -- the list only grew since it was made
     pub started : Begins (map node_of k.linked.items) core.joined
-    pub hands : (j i : ℕ) (v : View V) (h : Hand V) → get_elem? s.views j ≡ some v → get_elem? v.hands i ≡ some h → (v.base ≡ base k) × IsHand m k.life core s.words s.homes holder place j i h
+    pub hands : (j i : ℕ) (v : View V) (h : Hand V) → get_elem? s.views j ≡ some v → get_elem? v.hands i ≡ some h → (v.base ≡ k) × IsHand m k.life core s.words s.homes holder place j i h
     pub known : (j : ℕ) (v : View V) → get_elem? s.views j ≡ some v → Knows core v
     pub wards : (i : ℕ) (e : Entry V) → get_elem? (others_of k.linked.items k.callers.items) i ≡ some e → IsWard m k.life core s.homes holder place e
     pub traced : (slot who : ℕ) → holder slot ≡ some who → Stands s.views slot who ⊎ IsOther (others_of k.linked.items k.callers.items) slot who

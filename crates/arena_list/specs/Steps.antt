@@ -3,6 +3,7 @@ use Rattle.std.specs.Prelude.{◌≡◌, ◌≢◌, ℕ, ◌+◌, ◌/◌, ◌^�
 use mathlib.Core.Option.{some}
 use lib.ListN.{get_elem?}
 use Rattle.atomic_table.specs.Table.{Me, Step}
+use Rattle.arena_list.specs.declared.told.Told.{Told}
 use Rattle.arena_list.specs.declared.view.Node.{Node}
 use Rattle.arena_list.specs.declared.view.Hold.{Hold}
 use Rattle.arena_list.specs.declared.view.Hold.TheVariants.{Vacant, Filling, Away, Rests}
@@ -13,6 +14,7 @@ use Rattle.arena_list.specs.Core.{CallersDiffer}
 use Rattle.arena_list.specs.Words.{node_at, state_at}
 use Rattle.arena_list.specs.Views.{hand}
 use Rattle.arena_list.specs.Founded.{Meter}
+use Rattle.arena_list.specs.Moments.{SeenList, SeenSize}
 
 -- the list as it stood at a look, beside the hand that looked: the caller's slot is in it exactly where it is linked
 pub record Sees {V : Type 0} (h : Hand V) (nodes : List Node) : Type 0 where
@@ -37,6 +39,9 @@ greater (x ∷ xs) (y ∷ ys) = max x y ∷ greater xs ys
 -- the longer of two lists of which one begins the other
 abbrev pub longer : List Node → List Node → List Node
 longer xs ys = if nat_lt (length xs) (length ys) then ys else xs
+
+abbrev pub untold : {A : Type 0} → Told A
+untold = record { marker = record {}; items = [] }
 
 -- ---- the view after a step
 module _ {V : Type 0} where
@@ -97,8 +102,8 @@ module _ {V : Type 0} where
   carried h = carried_of h.slot h.hold
 
   -- ---- what a step tells
-  abbrev pub saw_head : Step (Option V) → Sat V → ℕ → Sat V → Type 0
-  saw_head st me r me' = (me' ≡ (looked me.0 me'.0.seen, me.1)) × (r ≡ head_of me'.0.seen) × Begins me.0.seen me'.0.seen × Sees (hand me.0) me'.0.seen
+  abbrev pub saw_head : Meter V → Step (Option V) → Sat V → ℕ → Sat V → Type 0
+  saw_head m st me r me' = (me' ≡ (looked me.0 me'.0.seen, me.1)) × (r ≡ head_of me'.0.seen) × Begins me.0.seen me'.0.seen × Sees (hand me.0) me'.0.seen × SeenList m me.0.base me.0 me'.0.seen
 
   abbrev pub saw_node : Step (Option V) → Sat V → ℕ → Sat V → Type 0
   saw_node st me r me' = (me' ≡ (counted me.0, me.1)) × ((k : ℕ) (n : Node) → get_elem? me.0.seen k ≡ some n → st.word ≡ node_at n.slot → r ≡ node_word n.caller (before me.0.seen k))
@@ -107,9 +112,9 @@ module _ {V : Type 0} where
   stored_node st me r me' = me' ≡ (noted me.0, me.1)
 
   -- the exchange appended the caller's node, or else showed a longer list
-  abbrev pub tried_link : Step (Option V) → Sat V → ℕ → Sat V → Type 0
-  tried_link st me r me' = (r ≡ st.first → (me' ≡ (joined me.0, me.1)) × Sees (hand me'.0) me'.0.seen)
-      × (r ≢ st.first → saw_head st me r me' × (length me.0.seen < length me'.0.seen))
+  abbrev pub tried_link : Meter V → Step (Option V) → Sat V → ℕ → Sat V → Type 0
+  tried_link m st me r me' = (r ≡ st.first → (me' ≡ (joined me.0, me.1)) × Sees (hand me'.0) me'.0.seen × SeenList m me.0.base me.0 me.0.seen)
+      × (r ≢ st.first → saw_head m st me r me' × (length me.0.seen < length me'.0.seen))
 
   abbrev pub took : Meter V → Step (Option V) → Sat V → ℕ → Sat V → Type 0
   took m st me r me' = (part : V) → (hand me.0).hold ≡ Rests part → me' ≡ (held me.0 (Away (m.used part)), ((hand me.0).slot, Some part) ∷ me.1)
@@ -121,7 +126,7 @@ module _ {V : Type 0} where
   gave m st me r me' = (part : V) (out : List (ℕ × Option V)) → me.1 ≡ ((hand me.0).slot, Some part) ∷ out → (me' ≡ (settled m me.0 part, out)) × (slice_index me.0.sizes (hand me.0).slot ≤ m.used part)
 
   abbrev pub saw_size : Meter V → Step (Option V) → Sat V → ℕ → Sat V → Type 0
-  saw_size m st me r me' = (slot : ℕ) → st.word ≡ state_at slot → (me' ≡ (sized me.0 slot (r / 2), me.1)) × (slice_index me.0.sizes slot ≤ r / 2) × (slice_index (set me.0.sizes slot (r / 2)) slot ≡ r / 2) × (slot ≡ (hand me.0).slot → r / 2 ≡ used_now m (hand me.0).hold)
+  saw_size m st me r me' = (slot : ℕ) → st.word ≡ state_at slot → (me' ≡ (sized me.0 slot (r / 2), me.1)) × (slice_index me.0.sizes slot ≤ r / 2) × (slice_index (set me.0.sizes slot (r / 2)) slot ≡ r / 2) × (slot ≡ (hand me.0).slot → r / 2 ≡ used_now m (hand me.0).hold) × SeenSize m me.0.base me.0 slot (r / 2)
 
   -- ---- cutting a view in two, and putting two together
   abbrev pub dealt : View V → View V
@@ -138,7 +143,7 @@ module _ {V : Type 0} where
   both v w = record { hands = v.hands ++ w.hands; seen = longer v.seen w.seen; list_steps = v.list_steps + w.list_steps; sizes = greater v.sizes w.sizes; base = v.base; pasts = v.seen ∷ w.seen ∷ (v.pasts ++ w.pasts) }
 
   abbrev pub spent : View V
-  spent = record { hands = []; seen = []; list_steps = 0; sizes = replicate 64 0; base = record { callers = []; others = [] }; pasts = [] }
+  spent = record { hands = []; seen = []; list_steps = 0; sizes = replicate 64 0; base = record { life = 0; linked = untold; spare = untold; callers = untold }; pasts = [] }
 
 -- What a seat keeps beside its view is what its view says: of its one caller, of the caller's slot and its used sum, and of the head
 pub record IsSeated {V : Type 0} (m : Meter V) (caller slot : ℕ) (linked : Bool) (used head : ℕ) (me : Sat V) : Type 0 where

@@ -28,4 +28,4 @@ pub use founding::Founding;
 pub use laws::words_show_one_list;
 pub use list::{ArenaList, ListRule, ListSeat};
 pub use told::Told;
-pub use view::{Base, Hand, Hold, Node, View};
+pub use view::{Hand, Hold, Node, View};

@@ -10,7 +10,7 @@ use atomic_table::{Join, Play, Split};
 pub(crate) struct Look;
 
 impl<V: Part> Play<Option<V>, View<V>> for Look {
-    ghost then = { saw_head };
+    ghost then = { saw_head (meter V.owner_of V.life_of V.used_of) };
 }
 
 /// A load of a node.
@@ -31,7 +31,7 @@ impl<V: Part> Play<Option<V>, View<V>> for StoreNode {
 pub(crate) struct Link;
 
 impl<V: Part> Play<Option<V>, View<V>> for Link {
-    ghost then = { tried_link };
+    ghost then = { tried_link (meter V.owner_of V.life_of V.used_of) };
 }
 
 /// An exchange on the state of the own slot, which takes its value.

@@ -3,6 +3,7 @@ ghost use Rattle.std.specs.Prelude.{◌≡◌, ◌^◌, ◌<◌, ◌≤◌, slic
 ghost use Rattle.arena_list.specs.Founded.{meter};
 ghost use Rattle.arena_list.specs.Views.{hand, out};
 ghost use Rattle.arena_list.specs.Steps.{sized, used_now};
+ghost use Rattle.arena_list.specs.Moments.{SeenSize};
 ghost use Rattle.arena_list.specs.Calls.{HasSummed};
 ghost use Rattle.arena_list.specs.Seats.{view, IsSeatOf, SameList};
 
@@ -44,6 +45,7 @@ impl<V: Part> ArenaList<V> {
         ensures here { slice_index (view seat.new).sizes slot ≡ result }
         ensures own { slot ≡ (hand (view seat.old)).slot → result ≡ used_now (meter V.owner_of V.life_of V.used_of) (out (view seat.old)) }
         ensures small { result < 2 ^ 63 }
+        ensures moment { SeenSize (meter V.owner_of V.life_of V.used_of) (view seat.old).base (view seat.old) slot result }
     {
         let state = STATES + slot as usize * STRIDE;
         self.table.shared.load::<ReadSize>(&mut seat.seat, state) / 2

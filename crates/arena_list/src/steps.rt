@@ -3,7 +3,9 @@ ghost use Rattle.std.specs.Prelude.{◌≡◌, ℕ, ◌+◌, ◌<◌, ◌≤◌,
 ghost use mathlib.Core.Option.{some};
 ghost use lib.ListN.{get_elem?};
 ghost use Rattle.arena_list.specs.Nodes.{before, head_of, node_word, Begins};
+ghost use Rattle.arena_list.specs.Founded.{meter};
 ghost use Rattle.arena_list.specs.Views.{hand};
+ghost use Rattle.arena_list.specs.Moments.{SeenList};
 ghost use Rattle.arena_list.specs.Steps.{Sees, counted, looked, noted, joined};
 ghost use Rattle.arena_list.specs.Seats.{view, IsSeatOf, SameList};
 
@@ -34,6 +36,7 @@ impl<V: Part> ArenaList<V> {
         ensures view { view seat.new ≡ looked (view seat.old) (view seat.new).seen }
         ensures seen { Begins (view seat.old).seen (view seat.new).seen × Sees (hand (view seat.old)) (view seat.new).seen }
         ensures head { result ≡ head_of (view seat.new).seen }
+        ensures moment { SeenList (meter V.owner_of V.life_of V.used_of) (view seat.old).base (view seat.old) (view seat.new).seen }
     {
         seat.head = self.table.shared.load::<Look>(&mut seat.seat, HEAD);
         seat.head
@@ -56,7 +59,7 @@ impl<V: Part> ArenaList<V> {
         requires list { IsSeatOf self.now seat.old }
         requires spare { (hand (view seat.old)).linked ≡ false }
         ensures list { SameList seat.old seat.new }
-        ensures linked { IsTrue result → view seat.new ≡ joined (noted (view seat.old)) }
+        ensures linked { IsTrue result → (view seat.new ≡ joined (noted (view seat.old))) × SeenList (meter V.owner_of V.life_of V.used_of) (view seat.old).base (noted (view seat.old)) (view seat.old).seen }
         ensures longer { result ≡ false → (view seat.new ≡ looked (noted (view seat.old)) (view seat.new).seen) × Begins (view seat.old).seen (view seat.new).seen × (length (view seat.old).seen < length (view seat.new).seen) }
     {
         let words = &self.table.shared;

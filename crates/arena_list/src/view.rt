@@ -1,5 +1,5 @@
-//! What a seat knows. No value of these types but `Node` is ever made: they exist for the proofs.
-use crate::entry::Entry;
+//! What a seat knows. No value of these types is ever made: they exist for the proofs.
+use crate::founding::Founding;
 use std::collections::LinkedList;
 
 /// A node of the list: a slot, and the caller whose slot it is.
@@ -31,12 +31,6 @@ pub struct Hand<V> {
     pub hold: Hold<V>,
 }
 
-/// What the list was made with: the callers that have seats, and the linked entries of the others.
-pub struct Base<V> {
-    pub callers: LinkedList<u32>,
-    pub others: LinkedList<Entry<V>>,
-}
-
 /// What a seat knows: of its callers, which are several inside `make` and `close` alone, of the list, oldest node
 /// first, and by slot the used sums that it saw.
 pub struct View<V> {
@@ -44,7 +38,8 @@ pub struct View<V> {
     pub seen: LinkedList<Node>,
     pub list_steps: u64,
     pub sizes: LinkedList<u64>,
-    pub base: Base<V>,
+    /// What the list was made with.
+    pub base: Founding<V>,
     /// What the seats that were joined into this one had seen of the list.
     pub pasts: LinkedList<LinkedList<Node>>,
 }

@@ -1,5 +1,6 @@
 //! Callers find their slot in the list, and join it.
 ghost use Rattle.std.specs.Prelude.{◌≡◌, None};
+ghost use Rattle.arena_list.specs.Founded.{meter};
 ghost use Rattle.arena_list.specs.Views.{mine};
 ghost use Rattle.arena_list.specs.Calls.{HasFound, HasJoined};
 ghost use Rattle.arena_list.specs.Seats.{view, IsSeatOf, SameList};
@@ -14,7 +15,7 @@ impl<V: Part> ArenaList<V> {
     pub fn find(&self, seat: &mut ListSeat<V>) -> Option<u32>
         requires { IsSeatOf self.now seat.old }
         ensures list { SameList seat.old seat.new }
-        ensures found { HasFound (view seat.old) (view seat.new) result }
+        ensures found { HasFound (meter V.owner_of V.life_of V.used_of) (view seat.old) (view seat.new) result }
     {
         let head = self.look(seat);
         let mut left = head / SPAN;
@@ -37,7 +38,7 @@ impl<V: Part> ArenaList<V> {
         requires list { IsSeatOf self.now seat.old }
         requires spare { mine (view seat.old) ≡ None }
         ensures list { SameList seat.old seat.new }
-        ensures joined { HasJoined (view seat.old) (view seat.new) result }
+        ensures joined { HasJoined (meter V.owner_of V.life_of V.used_of) (view seat.old) (view seat.new) result }
     {
         while !self.try_link(seat) {}
         seat.slot

@@ -20,10 +20,10 @@ read_size-requires-clause-slot g c = let e = c.look-head.ensures in let old = vi
 
 pub loop-left-preserved : goal.loop-left-preserved
 loop-left-preserved g c = let e = c.look-head.ensures in let old = view c.args.seat.now in let v = view c.look-head.new.seat in let M = (meter g.V.Part.owner_of g.V.Part.life_of g.V.Part.used_of) in let sees = sees_after old v e.view e.seen.1 in let n = c.read_node-node.ensures in let r = c.read_size.ensures in
-    (r.list ∙ (n.list ∙ c.loop-left.invariant.0), sum_goes M v sees (view c.loop-left.seat) (view c.read_node-node.new.seat) _ _ _ _ _ _ _ c.loop-left.invariant.1 c.loop-left-test.true n.view n.node refl r.view r.more r.here r.own r.small)
+    (r.list ∙ (n.list ∙ c.loop-left.invariant.0), sum_goes M v sees (view c.loop-left.seat) (view c.read_node-node.new.seat) _ _ _ _ _ _ _ c.loop-left.invariant.1 c.loop-left-test.true n.view n.node refl r.view r.more r.here r.own r.small r.moment)
 
 pub returns-clause-summed : goal.returns-clause-summed
 returns-clause-summed g c = let e = c.look-head.ensures in let old = view c.args.seat.now in let v = view c.look-head.new.seat in let M = (meter g.V.Part.owner_of g.V.Part.life_of g.V.Part.used_of) in let sees = sees_after old v e.view e.seen.1 in
     let none_left : c.loop-left.left ≡ 0 = (let a = c.loop-left-test.false in omega arith) in
-    sum_ends M v sees old (view c.loop-left.seat) c.loop-left.link c.loop-left.sum e.view e.seen.0
+    sum_ends M v sees old (view c.loop-left.seat) c.loop-left.link c.loop-left.sum e.view e.seen.0 e.moment
     (subst (λ (n : ℕ). IsSumming M v (view c.loop-left.seat) n c.loop-left.link c.loop-left.sum) none_left c.loop-left.invariant.1)
