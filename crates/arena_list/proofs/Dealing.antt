@@ -1,5 +1,5 @@
 -- The seats of a list that is made, one after another.
-use Rattle.std.proofs.Common.{◌≡◌, ℕ, zero, suc, ◌+◌, ◌<◌, ◌≤◌, Bool, false, List, [], ◌∷◌, ◌++◌, map, length, get_or, take, drop, sym, refl, ap, subst, ◌∙◌, arith, ⊎_elim}
+use Rattle.std.proofs.Common.{◌≡◌, ℕ, zero, suc, ◌+◌, ◌<◌, ◌≤◌, Bool, true, false, List, [], ◌∷◌, ◌++◌, map, length, get_or, take, drop, sym, refl, ap, subst, ◌∙◌, arith, ⊎_elim}
 use Rattle.std.proofs.lemmas.Bool.{false≢true}
 use Rattle.std.proofs.lemmas.List.{length-append}
 use mathlib.Core.Option.{some, some-injective, some-ne-none}
@@ -13,14 +13,14 @@ use Rattle.arena_list.specs.declared.list.ListSeat.{ListSeat}
 use Rattle.arena_list.specs.declared.view.Hold.TheVariants.{Vacant, Filling}
 use Rattle.arena_list.specs.declared.view.Hand.{Hand}
 use Rattle.arena_list.specs.declared.view.View.{View}
-use Rattle.arena_list.specs.Nodes.{before, head_of}
+use Rattle.arena_list.specs.Nodes.{node, before, head_of, HasNode, LacksNode}
 use Rattle.arena_list.specs.Views.{hand, first_hand}
 use Rattle.arena_list.specs.Founded.{Meter, AreFit, node_of, hand_for, first_view}
 use Rattle.arena_list.specs.Steps.{Sat, IsSeated, dealt, undealt, held, used_now, carried_of, rest_of}
 use Rattle.arena_list.specs.Made.{AreSeats, view_with}
 use Rattle.arena_list.specs.Seats.{view}
 use Rattle.arena_list.proofs.Lists.{at_below, at_end}
-use Rattle.arena_list.proofs.Few.{len_map}
+use Rattle.arena_list.proofs.Few.{len_map, at_map}
 use Rattle.arena_list.proofs.Opening.{entry_for}
 use Rattle.arena_list.proofs.FirstWords.{all_few, linked_before, linked_small}
 use Rattle.arena_list.proofs.Seats.{at_behind}
@@ -71,6 +71,13 @@ module _ {V : Type 0} (m : Meter V) (k : Founding V) (fit : AreFit m k.life k.li
       (λ t. let a = all_few m k.life k.linked.items k.spare.items k.callers.items fit in let b = at_below k.spare.items t.0 t.1 t.2 in omega arith)
       (entry_for m k fit i c at)
 
+  -- the node of a linked entry's caller
+  hand_seen : (slot : ℕ) → slot ≡ (hand_for k c).slot → (hand_for k c).linked ≡ true → HasNode (map node_of k.linked.items) slot c
+  hand_seen slot slot_is is = ⊎_elim
+      (λ t. (t.0, at_map node_of k.linked.items t.0 t.1 t.2 ∙ (λ i. some (node ((sym (slot_is ∙ ap (λ (h : Hand V). h.slot) t.4)) i) (t.3 i)))))
+      (λ t. absurd (false≢true (sym (ap (λ (h : Hand V). h.linked) t.4) ∙ is)))
+      (entry_for m k fit i c at)
+
   -- the seat that was just split off
   pub seated_new : (slot head : ℕ) (linked : Bool) (me : Sat V) → me ≡ (dealt (remaining k i), []) → slot ≡ (hand_for k c).slot → linked ≡ (hand_for k c).linked → head ≡ head_of (map node_of k.linked.items) → IsSeated m c slot linked 0 head me
   seated_new slot head linked me is slot_is linked_is head_is = let v : View V = record (first_view k) { hands = hand_for k c ∷ [] } in
@@ -85,6 +92,7 @@ module _ {V : Type 0} (m : Meter V) (k : Founding V) (fit : AreFit m k.life k.li
         slot_small = subst (λ (n : ℕ). n < 64) (sym slot_is) hand_small;
         used_small = omega arith;
         link_small = subst (λ (x : Sat V). before x.0.seen (length x.0.seen) ≤ 64) back (linked_before m k.life k.linked.items k.spare.items k.callers.items fit (length (map node_of k.linked.items)));
+        own = λ e. subst (λ (x : Sat V). ¬ LacksNode x.0.seen slot c) back (λ none. let has = hand_seen slot slot_is (sym linked_is ∙ e) in none has.0 has.1);
         few = subst (λ (x : Sat V). length x.0.seen ≤ 64) back (omega arith);
         fewer = λ e. subst (λ (x : Sat V). length x.0.seen < 64) back (let f = hand_fewer (sym linked_is ∙ e) in omega arith);
         carries = ap (λ (x : Sat V). x.1) all ∙ ap (carried_of (hand_for k c).slot) (sym hand_vacant) ∙ ap (λ (x : Sat V). carried_of (hand x.0).slot (hand x.0).hold) back;

@@ -1,12 +1,12 @@
 -- What the head's word and the nodes' words tell of the list.
-use Rattle.std.proofs.Common.{◌≡◌, ℕ, zero, suc, ◌+◌, ◌*◌, ◌^◌, ◌<◌, ◌≤◌, List, [], ◌∷◌, ◌++◌, map, length, get_or, sym, refl, ap, ◌∙◌, arith}
-use mathlib.Core.Option.{some, some-injective}
+use Rattle.std.proofs.Common.{◌≡◌, ℕ, zero, suc, ◌+◌, ◌*◌, ◌^◌, ◌<◌, ◌≤◌, ◌≢◌, ◌⊎◌, inl, inr, ⊎_elim, List, [], ◌∷◌, ◌++◌, map, length, get_or, sym, refl, ap, ◌∙◌, arith}
+use mathlib.Core.Option.{some, some-injective, some-ne-none}
 use mathlib.Core.Logic.{dite}
-use native.Mathlib.Decide.{dec_le}
+use native.Mathlib.Decide.{ℕ_discrete, dec_le}
 use lib.ListN.{get_elem?}
 use Rattle.std.proofs.lemmas.List.{length-append}
 use Rattle.arena_list.specs.declared.view.Node.{Node}
-use Rattle.arena_list.specs.Nodes.{slot_of, before, head_of, Begins}
+use Rattle.arena_list.specs.Nodes.{node, slot_of, before, head_of, Begins, HasNode, LacksNode}
 use Rattle.atomic_table.proofs.Lists.{at_last}
 use Rattle.arena_list.proofs.Lists.{at_there}
 use Rattle.arena_list.proofs.Few.{or_at, at_map, len_map}
@@ -30,6 +30,25 @@ before_small nodes small zero = omega arith
 before_small nodes small (suc k) = dite (dec_le (length nodes) k)
     (λ past. let l = len_map slot_of nodes in let e = past_end (map slot_of nodes) k 0 (omega arith) in omega arith)
     (λ within. let t = at_there nodes k (omega arith) in let e = before_at nodes k t.0 t.1 in let s = small k t.0 t.1 in omega arith)
+
+-- a list has a node, or it doesn't
+not_here : (n : Node) (ns : List Node) (slot who : ℕ) → n ≢ node slot who → LacksNode ns slot who → LacksNode (n ∷ ns) slot who
+not_here n ns slot who other rest zero e = other (some-injective n (node slot who) e)
+not_here n ns slot who other rest (suc k) e = rest k e
+
+has_or_not : (nodes : List Node) (slot who : ℕ) → HasNode nodes slot who ⊎ LacksNode nodes slot who
+has_or_not [] slot who = inr (λ k e. some-ne-none (node slot who) (sym e))
+has_or_not (n ∷ ns) slot who = ⊎_elim
+    (λ has. inl (suc has.0, has.1))
+    (λ rest. dite (ℕ_discrete n.slot slot)
+    (λ s. dite (ℕ_discrete n.caller who)
+    (λ c. inl (0, λ i. some (node (s i) (c i))))
+    (λ ne. inr (not_here n ns slot who (λ e. ne (ap (λ (x : Node). x.caller) e)) rest)))
+    (λ ne. inr (not_here n ns slot who (λ e. ne (ap (λ (x : Node). x.slot) e)) rest)))
+    (has_or_not ns slot who)
+
+pub has_node : (nodes : List Node) (slot who : ℕ) → ¬ LacksNode nodes slot who → HasNode nodes slot who
+has_node nodes slot who not = ⊎_elim (λ has. has) (λ none. absurd (not none)) (has_or_not nodes slot who)
 
 -- a list that begins another and is as long is it
 pub begins_whole : (xs ys : List Node) → Begins xs ys → length xs ≡ length ys → xs ≡ ys

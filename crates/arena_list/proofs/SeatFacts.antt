@@ -21,11 +21,15 @@ use Rattle.arena_list.specs.declared.view.Hold.{Hold}
 use Rattle.arena_list.specs.declared.view.Hold.TheVariants.{Vacant, Filling, Away, Rests}
 use Rattle.arena_list.specs.declared.view.Hand.{Hand}
 use Rattle.arena_list.specs.declared.view.View.{View}
-use Rattle.arena_list.specs.Nodes.{before, head_of}
-use Rattle.arena_list.specs.Views.{hand, first_hand, mine, when}
+use Rattle.arena_list.specs.Nodes.{node, before, head_of, Begins, HasNode, LacksNode}
+use Rattle.arena_list.specs.Views.{hand, first_hand, mine, when, HasSeenOwn}
 use Rattle.arena_list.specs.Founded.{Meter}
 use Rattle.arena_list.specs.Steps.{Sat, Sees, IsSeated, looked, counted, joined, held, settled, noted, next_link, own_node, used_now, carried, saw_head, tried_link}
-use Rattle.arena_list.proofs.Links.{before_small, head_more}
+use Rattle.arena_list.proofs.Links.{before_small, head_more, has_node}
+
+-- what a list doesn't have, none has that begins it
+none_before : {xs ys : List Node} {slot who : ℕ} → Begins xs ys → LacksNode ys slot who → LacksNode xs slot who
+none_before {slot = slot} {who = who} begins none_there = λ k e. none_there k (begins.same k (node slot who) e)
 
 module _ {V : Type 0} where
   out_carries : (s : ℕ) (x : Hold V) → IsOut x → carried_of s x ≡ (s, None) ∷ []
@@ -63,11 +67,16 @@ module _ {V : Type 0} where
   gave_more m st r slot part me me' me'' is at told = let t = (told part [] (ap (λ (x : Sat V). x.1) is ∙ (λ i. (at i, Some part) ∷ []) ∙ ap (λ (x : Sat V). ((hand x.0).slot, Some part) ∷ []) (sym is))).1 in
       let e = ap (λ (x : Sat V). slice_index x.0.sizes (hand x.0).slot) is in omega arith
 
+-- what a seat keeps tells that it has seen the caller's own node
+pub seen_own : {V : Type 0} (m : Meter V) {caller slot used head : ℕ} {linked : Bool} {me : Sat V} → IsSeated m caller slot linked used head me → HasSeenOwn me.0
+seen_own m {caller = caller} {slot = slot} {me = me} o at is = let told = mine_tells me.0 at is in let has = has_node me.0.seen slot caller (o.own (o.linked_is ∙ told.0)) in
+    subst (λ (p : ℕ × ℕ). HasNode me.0.seen p.0 p.1) (λ i. ((o.slot_is ∙ told.1) i, o.caller_is i)) has
+
 module _ {V : Type 0} (m : Meter V) {caller slot used head : ℕ} {linked : Bool} {me : Sat V} where
   -- a step that leaves the hands
-  pub seated_as : (head' : ℕ) (me' : Sat V) → me'.0.hands ≡ me.0.hands → me'.1 ≡ me.1 → head' ≡ head_of me'.0.seen → next_link me'.0 ≤ 64 → length me'.0.seen ≤ 64 → (linked ≡ false → length me'.0.seen < 64)
+  pub seated_as : (head' : ℕ) (me' : Sat V) → me'.0.hands ≡ me.0.hands → me'.1 ≡ me.1 → head' ≡ head_of me'.0.seen → next_link me'.0 ≤ 64 → length me'.0.seen ≤ 64 → (linked ≡ false → length me'.0.seen < 64) → (linked ≡ true → ¬ LacksNode me'.0.seen slot caller)
       → IsSeated m caller slot linked used head me → IsSeated m caller slot linked used head' me'
-  seated_as head' me' hands carries is link few fewer o = let h : hand me'.0 ≡ hand me.0 = ap first_hand hands in record {
+  seated_as head' me' hands carries is link few fewer own o = let h : hand me'.0 ≡ hand me.0 = ap first_hand hands in record {
     one = ap length hands ∙ o.one;
     caller_is = o.caller_is ∙ ap (λ (h : Hand V). h.who) (sym h);
     slot_is = o.slot_is ∙ ap (λ (h : Hand V). h.slot) (sym h);
@@ -77,6 +86,7 @@ module _ {V : Type 0} (m : Meter V) {caller slot used head : ℕ} {linked : Bool
     slot_small = o.slot_small;
     used_small = o.used_small;
     link_small = link;
+    own = own;
     few = few;
     fewer = fewer;
     carries = carries ∙ o.carries ∙ ap carried (sym h);
@@ -85,12 +95,12 @@ module _ {V : Type 0} (m : Meter V) {caller slot used head : ℕ} {linked : Bool
   -- after a look
   pub seated_look : (st : Step (Option V)) (r : ℕ) (me' : Sat V) → saw_head m st me r me' → IsSeated m caller slot linked used head me → IsSeated m caller slot linked used r me'
   seated_look st r me' told o = let s = told.3 in seated_as r me' (ap (λ (x : Sat V). x.0.hands) told.0) (ap (λ (x : Sat V). x.1) told.0) told.1 (before_small me'.0.seen s.small (length me'.0.seen)) s.few
-      (λ e. s.fewer (sym o.linked_is ∙ e)) o
+      (λ e. s.fewer (sym o.linked_is ∙ e)) (λ e none. o.own e (none_before told.2 none)) o
 
   -- after a step that changes the count alone
   pub seated_count : (me' : Sat V) → me' ≡ (counted me.0, me.1) → IsSeated m caller slot linked used head me → IsSeated m caller slot linked used head me'
   seated_count me' is o = let seen : me'.0.seen ≡ me.0.seen = ap (λ (x : Sat V). x.0.seen) is in seated_as head me' (ap (λ (x : Sat V). x.0.hands) is) (ap (λ (x : Sat V). x.1) is) (o.head_is ∙ ap head_of (sym seen))
-      (subst (λ (l : List Node). before l (length l) ≤ 64) (sym seen) o.link_small) (subst (λ (l : List Node). length l ≤ 64) (sym seen) o.few) (λ e. subst (λ (l : List Node). length l < 64) (sym seen) (o.fewer e)) o
+      (subst (λ (l : List Node). before l (length l) ≤ 64) (sym seen) o.link_small) (subst (λ (l : List Node). length l ≤ 64) (sym seen) o.few) (λ e. subst (λ (l : List Node). length l < 64) (sym seen) (o.fewer e)) (λ e. subst (λ (l : List Node). ¬ LacksNode l slot caller) (sym seen) (o.own e)) o
 
   -- the numbers in the head that was seen
   pub head_count : IsSeated m caller slot linked used head me → head / 2 ^ 32 ≡ length me.0.seen
@@ -115,20 +125,23 @@ module _ {V : Type 0} (m : Meter V) {caller slot used head : ℕ} {linked : Bool
   -- after an exchange that linked the spare
   pub seated_linked : (me' : Sat V) (new : ℕ) → IsSeated m caller slot linked used head me → me' ≡ (joined (noted me.0), me.1) → Sees (hand me'.0) me'.0.seen → new ≡ (head / 2 ^ 32 + 1) * 2 ^ 32 + slot + 1
       → IsSeated m caller slot true used new me'
-  seated_linked me' new o after sees is = let v = joined (noted me.0) in let at = sym after in record {
-    one = ap (λ (x : Sat V). length x.0.hands) after;
-    caller_is = o.caller_is ∙ ap (λ (x : Sat V). (hand x.0).who) at;
-    slot_is = o.slot_is ∙ ap (λ (x : Sat V). (hand x.0).slot) at;
-    linked_is = ap (λ (x : Sat V). (hand x.0).linked) at;
-    used_is = o.used_is ∙ ap (λ (x : Sat V). used_now m (hand x.0).hold) at;
-    head_is = (let h = head_more me.0.seen (own_node me.0) in let c = head_count o in let s = o.slot_is in let z : new ≡ head_of (me.0.seen ++ own_node me.0 ∷ []) = omega arith in z) ∙ ap (λ (x : Sat V). head_of x.0.seen) at;
-    slot_small = o.slot_small;
-    used_small = o.used_small;
-    link_small = before_small me'.0.seen sees.small (length me'.0.seen);
-    few = sees.few;
-    fewer = λ e. absurd (false≢true (sym e));
-    carries = ap (λ (x : Sat V). x.1) after ∙ o.carries ∙ ap (λ (x : Sat V). carried (hand x.0)) at;
-  }
+  seated_linked me' new o after sees is = let v = joined (noted me.0) in let at = sym after in
+      let caller_is : caller ≡ (hand me'.0).who = o.caller_is ∙ ap (λ (x : Sat V). (hand x.0).who) at in let slot_is : slot ≡ (hand me'.0).slot = o.slot_is ∙ ap (λ (x : Sat V). (hand x.0).slot) at in
+      let linked_is : true ≡ (hand me'.0).linked = ap (λ (x : Sat V). (hand x.0).linked) at in record {
+        one = ap (λ (x : Sat V). length x.0.hands) after;
+        caller_is = caller_is;
+        slot_is = slot_is;
+        linked_is = linked_is;
+        used_is = o.used_is ∙ ap (λ (x : Sat V). used_now m (hand x.0).hold) at;
+        head_is = (let h = head_more me.0.seen (own_node me.0) in let c = head_count o in let s = o.slot_is in let z : new ≡ head_of (me.0.seen ++ own_node me.0 ∷ []) = omega arith in z) ∙ ap (λ (x : Sat V). head_of x.0.seen) at;
+        slot_small = o.slot_small;
+        used_small = o.used_small;
+        link_small = before_small me'.0.seen sees.small (length me'.0.seen);
+        own = λ e. subst (λ (p : ℕ × ℕ). ¬ LacksNode me'.0.seen p.0 p.1) (λ i. ((sym slot_is) i, (sym caller_is) i)) (λ none. let has = sees.linked (sym linked_is) in none has.0 has.1);
+        few = sees.few;
+        fewer = λ e. absurd (false≢true (sym e));
+        carries = ap (λ (x : Sat V). x.1) after ∙ o.carries ∙ ap (λ (x : Sat V). carried (hand x.0)) at;
+      }
 
   -- after one that showed a longer list
   pub seated_missed : (st : Step (Option V)) (r : ℕ) (me1 me' : Sat V) → IsSeated m caller slot linked used head me → me1 ≡ (noted me.0, me.1) → saw_head m st me1 r me' → IsSeated m caller slot linked used r me'
@@ -143,6 +156,7 @@ module _ {V : Type 0} (m : Meter V) {caller slot used head : ℕ} {linked : Bool
         slot_small = o.slot_small;
         used_small = o.used_small;
         link_small = before_small v.seen s.small (length v.seen);
+        own = λ e none. o.own e (subst (λ (l : List Node). LacksNode l slot caller) (ap (λ (x : Sat V). x.0.seen) after) (none_before told.2 none));
         few = s.few;
         fewer = λ e. s.fewer (ap (λ (x : Sat V). (hand x.0).linked) after ∙ sym o.linked_is ∙ e);
         carries = ap (λ (x : Sat V). x.1) at ∙ o.carries ∙ ap carried (sym h);
@@ -161,10 +175,23 @@ module _ {V : Type 0} (m : Meter V) {caller slot used head : ℕ} {linked : Bool
     slot_small = o.slot_small;
     used_small = small;
     link_small = subst (λ (l : List Node). before l (length l) ≤ 64) (sym seen) o.link_small;
+    own = λ e. subst (λ (l : List Node). ¬ LacksNode l slot caller) (sym seen) (o.own e);
     few = subst (λ (l : List Node). length l ≤ 64) (sym seen) o.few;
     fewer = λ e. subst (λ (l : List Node). length l < 64) (sym seen) (o.fewer e);
     carries = carries ∙ ap carried (sym h);
   }
+
+  -- after the load that takes a slot which isn't filled yet
+  pub seated_claimed : (me' : Sat V) → IsSeated m caller slot linked used head me → (hand me.0).hold ≡ Vacant → me' ≡ (held me.0 Filling, ((hand me.0).slot, None) ∷ me.1) → IsSeated m caller slot linked used head me'
+  seated_claimed me' o there is = seated_hold Filling used me' (ap (λ (x : Sat V). x.0.hands) is) (ap (λ (x : Sat V). x.0.seen) is)
+      (ap (λ (x : Sat V). x.1) is ∙ ap (λ (l : List (ℕ × Option V)). ((hand me.0).slot, None) ∷ l) (o.carries ∙ ap (carried_of (hand me.0).slot) there)) (o.used_is ∙ ap (used_now m) there) o.used_small o
+
+  -- after the exchange that takes the value, and the one that hands it out
+  pub seated_took : (part : V) (s : ℕ) (me1 me' : Sat V) → IsSeated m caller slot linked used head me → (hand me.0).hold ≡ Rests part → (hand me.0).slot ≡ s
+      → me1 ≡ (held me.0 (Away (m.used part)), ((hand me.0).slot, Some part) ∷ me.1) → me' ≡ (me1.0, (s, None) ∷ rest_of_slots me1.1) → IsSeated m caller slot linked used head me'
+  seated_took part s me1 me' o there at first last = let is : me' ≡ (held me.0 (Away (m.used part)), (s, None) ∷ me.1) = last ∙ ap (λ (x : Sat V). (x.0, (s, None) ∷ rest_of_slots x.1)) first in
+      seated_hold (Away (m.used part)) used me' (ap (λ (x : Sat V). x.0.hands) is) (ap (λ (x : Sat V). x.0.seen) is)
+      (ap (λ (x : Sat V). x.1) is ∙ (λ i. ((sym at) i, None) ∷ (o.carries ∙ ap (carried_of (hand me.0).slot) there) i)) (o.used_is ∙ ap (used_now m) there) o.used_small o
 
   -- the exchange that takes the value of the own slot
   pub take_step : (k : Founding V) (slots id word new : ℕ) (part : V) → IsSeated m caller slot linked used head me → linked ≡ true → (hand me.0).hold ≡ Rests part → word ≡ 80 + 8 * slot → new ≡ 2 * used
@@ -190,7 +217,7 @@ module _ {V : Type 0} (m : Meter V) {caller slot used head : ℕ} {linked : Bool
   -- after a load of a state
   pub seated_sized : (i used' : ℕ) (me' : Sat V) → me' ≡ (sized me.0 i used', me.1) → IsSeated m caller slot linked used head me → IsSeated m caller slot linked used head me'
   seated_sized i used' me' is o = let seen : me'.0.seen ≡ me.0.seen = ap (λ (x : Sat V). x.0.seen) is in seated_as head me' (ap (λ (x : Sat V). x.0.hands) is) (ap (λ (x : Sat V). x.1) is) (o.head_is ∙ ap head_of (sym seen))
-      (subst (λ (l : List Node). before l (length l) ≤ 64) (sym seen) o.link_small) (subst (λ (l : List Node). length l ≤ 64) (sym seen) o.few) (λ e. subst (λ (l : List Node). length l < 64) (sym seen) (o.fewer e)) o
+      (subst (λ (l : List Node). before l (length l) ≤ 64) (sym seen) o.link_small) (subst (λ (l : List Node). length l ≤ 64) (sym seen) o.few) (λ e. subst (λ (l : List Node). length l < 64) (sym seen) (o.fewer e)) (λ e. subst (λ (l : List Node). ¬ LacksNode l slot caller) (sym seen) (o.own e)) o
 
   -- the load of a state
   pub size_step : (k : Founding V) (slots id word i : ℕ) → IsSeated m caller slot linked used head me → i < 64 → word ≡ 80 + 8 * i → Allows (Holds m k) slots id me word (λ n. n) (saw_size m (step slots word 0 0 none) me)

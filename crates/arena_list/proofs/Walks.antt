@@ -10,7 +10,7 @@ use Rattle.arena_list.specs.declared.view.Node.{Node}
 use Rattle.arena_list.specs.declared.view.Hand.{Hand}
 use Rattle.arena_list.specs.declared.view.View.{View}
 use Rattle.arena_list.specs.Nodes.{node, before, head_of, node_word, Begins}
-use Rattle.arena_list.specs.Views.{hand, who, mine, spare, when, unless}
+use Rattle.arena_list.specs.Views.{hand, who, mine, spare, when, unless, HasSeenOwn}
 use Rattle.arena_list.specs.Founded.{Meter}
 use Rattle.arena_list.specs.Moments.{SeenList}
 use Rattle.arena_list.specs.Steps.{Sees, looked, counted, noted, own_node, joined}
@@ -83,8 +83,8 @@ module _ {V : Type 0} (v : View V) (sees : Sees (hand v) v.seen) where
   -- it is: the caller's slot
   pub walk_finds : (m : Meter V) (old w u : View V) (left link word slot : ℕ) → v ≡ looked old v.seen → Begins old.seen v.seen → SeenList m old.base old v.seen → IsWalking v w left link → 0 < left → u ≡ counted w
       → ((k : ℕ) (n : Node) → get_elem? w.seen k ≡ some n → link - 1 ≡ n.slot → word ≡ node_word n.caller (before w.seen k))
-      → word / 2 ^ 32 ≡ who v → slot ≡ link - 1 → HasFound m old u (Some slot)
-  walk_finds m old w u left link word slot look begins moment o h step read own at = let t = walk_read w left link word o h read in let n = t.0 in let c : n.caller ≡ who v = sym t.3 ∙ own in
+      → word / 2 ^ 32 ≡ who v → slot ≡ link - 1 → HasSeenOwn u → HasFound m old u (Some slot)
+  walk_finds m old w u left link word slot look begins moment o h step read own at seen_own = let t = walk_read w left link word o h read in let n = t.0 in let c : n.caller ≡ who v = sym t.3 ∙ own in
       let seen : u.seen ≡ v.seen = ap (λ (x : View V). x.seen) step ∙ ap (λ (x : View V). x.seen) o.same in
       let same_hand : hand u ≡ hand v = ap (λ (x : View V). hand x) step ∙ walk_hand w left link o in
       let n_is : n ≡ node slot (who u) = (λ i. node ((sym t.2 ∙ sym at) i) ((c ∙ ap (λ (h : Hand V). h.who) (sym same_hand)) i)) in
@@ -95,6 +95,7 @@ module _ {V : Type 0} (v : View V) (sees : Sees (hand v) v.seen) where
         none = tt;
         earlier = shown_grows old u (subst (λ (l : List Node). Begins old.seen l) (sym seen) begins) (ap (λ (x : View V). x.sizes) step ∙ ap (λ (x : View V). x.sizes) o.same ∙ ap (λ (x : View V). x.sizes) look);
         mine_is = (λ i. Some ((at ∙ t.2 ∙ slots.1) i)) ∙ ap (λ (b : Bool). when b (hand v).slot) (sym slots.0) ∙ ap (λ (h : Hand V). when h.linked h.slot) (sym same_hand);
+        own = seen_own;
         some_step = (let a = o.steps in let b = o.within in omega arith);
         steps = (let a = o.steps in let e : length u.seen ≡ length v.seen = ap length seen in omega arith);
         few = subst (λ (l : List Node). length l ≤ 64) (sym seen) sees.few;
@@ -105,8 +106,8 @@ module _ {V : Type 0} (v : View V) (sees : Sees (hand v) v.seen) where
       }
 
   -- no node was the caller's
-  pub walk_ends : (m : Meter V) (old w : View V) (link : ℕ) → v ≡ looked old v.seen → Begins old.seen v.seen → SeenList m old.base old v.seen → IsWalking v w 0 link → HasFound m old w None
-  walk_ends m old w link look begins moment o = let seen : w.seen ≡ v.seen = ap (λ (x : View V). x.seen) o.same in let same_hand = walk_hand w 0 link o in
+  pub walk_ends : (m : Meter V) (old w : View V) (link : ℕ) → v ≡ looked old v.seen → Begins old.seen v.seen → SeenList m old.base old v.seen → IsWalking v w 0 link → HasSeenOwn w → HasFound m old w None
+  walk_ends m old w link look begins moment o seen_own = let seen : w.seen ≡ v.seen = ap (λ (x : View V). x.seen) o.same in let same_hand = walk_hand w 0 link o in
       let began : v.list_steps ≡ old.list_steps + 1 = ap (λ (x : View V). x.list_steps) look in record {
         looked = subst (λ (l : List Node). SeenList m old.base old l) (sym seen) moment;
         found = tt;
@@ -116,6 +117,7 @@ module _ {V : Type 0} (v : View V) (sees : Sees (hand v) v.seen) where
             (λ t. let own = sees.linked t in absurd (o.past own.0 (node (hand v).slot (hand v).who) (omega arith) own.1 refl))
             (λ f. ap (λ (b : Bool). when b (hand v).slot) (sym f) ∙ ap (λ (h : Hand V). when h.linked h.slot) (sym same_hand))
             (cases_Bool (hand v).linked);
+        own = seen_own;
         some_step = (let a = o.steps in omega arith);
         steps = (let a = o.steps in let e : length w.seen ≡ length v.seen = ap length seen in omega arith);
         few = subst (λ (l : List Node). length l ≤ 64) (sym seen) sees.few;
@@ -142,14 +144,15 @@ module _ {V : Type 0} (v : View V) where
     base = ap (λ (x : View V). x.base) is ∙ o.base;
   }
 
-  pub tries_end : (m : Meter V) (w u : View V) (slot : ℕ) → HasTried v w → u ≡ joined (noted w) → SeenList m w.base (noted w) w.seen → (hand v).linked ≡ false → length u.seen ≤ 64 → slot ≡ (hand v).slot → HasJoined m v u slot
-  tries_end m w u slot o is seen spare few at = let steps : u.list_steps ≡ w.list_steps + 1 + 1 = ap (λ (x : View V). x.list_steps) is in
+  pub tries_end : (m : Meter V) (w u : View V) (slot : ℕ) → HasTried v w → u ≡ joined (noted w) → SeenList m w.base (noted w) w.seen → (hand v).linked ≡ false → length u.seen ≤ 64 → slot ≡ (hand v).slot → HasSeenOwn u → HasJoined m v u slot
+  tries_end m w u slot o is seen spare few at seen_own = let steps : u.list_steps ≡ w.list_steps + 1 + 1 = ap (λ (x : View V). x.list_steps) is in
       let long : length u.seen ≡ length w.seen + 1 = ap (λ (x : View V). length x.seen) is ∙ length-append w.seen (node (hand w).slot (hand w).who ∷ []) in
       -- the list of that moment has no node of the seat's caller, who has a spare
       let own = (own_hand m w.base seen.state seen.moment.rule seen.id (noted w) seen.moment.stands refl).1 in
       let no_node : Lacks w.seen (who v) = (λ k n e c. own.spare (o.linked ∙ spare) k n (ap (λ (l : List Node). get_elem? l k) seen.nodes_are ∙ e) (c ∙ sym o.who_is)) in record {
         was_spare = ap (λ (b : Bool). unless b (hand v).slot) spare ∙ ap Some (sym at);
         mine_is = ap (λ (x : View V). mine x) is ∙ ap Some (o.slot ∙ sym at);
+        own = seen_own;
         appended = (w.seen, o.seen, no_node, ap (λ (x : View V). x.seen) is ∙ (λ i. w.seen ++ node ((o.slot ∙ sym at) i) (o.who_is i) ∷ []));
         looked = (noted w, is, seen);
         steps = (let a = o.steps in omega arith);

@@ -5,7 +5,7 @@ use lib.ListN.{get_elem?}
 use Rattle.arena_list.specs.declared.view.Node.{Node}
 use Rattle.arena_list.specs.declared.view.View.{View}
 use Rattle.arena_list.specs.Nodes.{node, before, Begins, HasNode}
-use Rattle.arena_list.specs.Views.{hand, who, mine, spare, out, shown, sum_seen}
+use Rattle.arena_list.specs.Views.{hand, who, mine, spare, out, shown, sum_seen, HasSeenOwn}
 use Rattle.arena_list.specs.Founded.{Meter}
 use Rattle.arena_list.specs.Moments.{SeenList, SeenSize}
 use Rattle.arena_list.specs.Steps.{joined, used_now}
@@ -25,6 +25,7 @@ module _ {V : Type 0} where
     -- what a seat was shown never falls
     pub earlier : shown v ≤ shown w
     pub mine_is : answer ≡ mine w
+    pub own : HasSeenOwn w
     -- one step for the look, and at most one for each node
     pub some_step : v.list_steps + 1 ≤ w.list_steps
     pub steps : w.list_steps ≤ v.list_steps + 1 + length w.seen
@@ -49,6 +50,7 @@ module _ {V : Type 0} where
   pub record HasJoined (m : Meter V) (v w : View V) (slot : ℕ) : Type 0 where
     pub was_spare : spare v ≡ Some slot
     pub mine_is : mine w ≡ Some slot
+    pub own : HasSeenOwn w
     pub appended : (nodes : List Node) × Begins v.seen nodes × Lacks nodes (who v) × (w.seen ≡ nodes ++ node slot (who v) ∷ [])
     -- the list had the nodes before it when the exchange appended it
     pub looked : (u : View V) × (w ≡ joined u) × SeenList m u.base u u.seen

@@ -1,5 +1,5 @@
 -- The list as its nodes, oldest first, and how its words write it down.
-use Rattle.std.specs.Prelude.{◌≡◌, ℕ, zero, suc, ◌+◌, ◌*◌, ◌^◌, ◌≤◌, List, length, slice_index, map}
+use Rattle.std.specs.Prelude.{◌≡◌, ◌≢◌, ℕ, zero, suc, ◌+◌, ◌*◌, ◌^◌, ◌≤◌, List, length, slice_index, map}
 use mathlib.Core.Option.{some}
 use lib.ListN.{get_elem?}
 use Rattle.arena_list.specs.declared.view.Node.{Node}
@@ -24,13 +24,13 @@ head_of nodes = length nodes * 2 ^ 32 + before nodes (length nodes)
 abbrev pub node_word : ℕ → ℕ → ℕ
 node_word caller previous = caller * 2 ^ 32 + previous
 
--- the list has a node of the caller
-abbrev pub HasCaller : List Node → ℕ → Type 0
-HasCaller nodes who = (k : ℕ) × (n : Node) × (get_elem? nodes k ≡ some n) × (n.caller ≡ who)
-
 -- the list has this node
 abbrev pub HasNode : List Node → ℕ → ℕ → Type 0
 HasNode nodes slot who = (k : ℕ) × (get_elem? nodes k ≡ some (node slot who))
+
+-- the list doesn't have this node
+abbrev pub LacksNode : List Node → ℕ → ℕ → Type 0
+LacksNode nodes slot who = (k : ℕ) → get_elem? nodes k ≢ some (node slot who)
 
 -- one list begins the other
 pub record Begins (xs ys : List Node) : Type 0 where

@@ -9,7 +9,7 @@ use Rattle.arena_list.specs.declared.view.Hold.{Hold}
 use Rattle.arena_list.specs.declared.view.Hold.TheVariants.{Vacant, Filling, Away, Rests}
 use Rattle.arena_list.specs.declared.view.Hand.{Hand}
 use Rattle.arena_list.specs.declared.view.View.{View}
-use Rattle.arena_list.specs.Nodes.{node, before, head_of, node_word, Begins, HasNode}
+use Rattle.arena_list.specs.Nodes.{node, before, head_of, node_word, Begins, HasNode, LacksNode}
 use Rattle.arena_list.specs.Core.{CallersDiffer}
 use Rattle.arena_list.specs.Words.{node_at, state_at}
 use Rattle.arena_list.specs.Views.{hand}
@@ -156,6 +156,8 @@ pub record IsSeated {V : Type 0} (m : Meter V) (caller slot : ℕ) (linked : Boo
   pub slot_small : slot < 64
   pub used_small : used < 2 ^ 63
   pub link_small : next_link me.0 ≤ 64
+  -- a seat whose slot is in the list has seen its own node
+  pub own : linked ≡ true → ¬ LacksNode me.0.seen slot caller
   pub few : length me.0.seen ≤ 64
   pub fewer : linked ≡ false → length me.0.seen < 64
   pub carries : me.1 ≡ carried (hand me.0)

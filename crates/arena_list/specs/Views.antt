@@ -1,10 +1,11 @@
 -- What a seat's view says, by name.
-use Rattle.std.specs.Prelude.{ℕ, ◌+◌, Bool, true, false, List, [], ◌∷◌, Option, Some, None, slice_index}
+use Rattle.std.specs.Prelude.{◌≡◌, ℕ, ◌+◌, Bool, true, false, List, [], ◌∷◌, Option, Some, None, slice_index}
 use Rattle.arena_list.specs.declared.view.Node.{Node}
 use Rattle.arena_list.specs.declared.view.Hold.{Hold}
 use Rattle.arena_list.specs.declared.view.Hold.TheVariants.{Vacant}
 use Rattle.arena_list.specs.declared.view.Hand.{Hand}
 use Rattle.arena_list.specs.declared.view.View.{View}
+use Rattle.arena_list.specs.Nodes.{HasNode}
 
 -- the sum of what the seat saw of these nodes
 abbrev pub sum_seen : List ℕ → List Node → ℕ
@@ -38,6 +39,10 @@ module _ {V : Type 0} where
   -- the caller's slot that isn't in the list yet
   abbrev pub spare : View V → Option ℕ
   spare v = unless (hand v).linked (hand v).slot
+
+  -- the seat has seen the caller's own node, where that is in the list
+  abbrev pub HasSeenOwn : View V → Type 0
+  HasSeenOwn v = (slot : ℕ) → mine v ≡ Some slot → HasNode v.seen slot (who v)
 
   -- where the value of the caller's slot is
   abbrev pub out : View V → Hold V

@@ -1,7 +1,7 @@
 use Rattle.std.proofs.Common.{rules, arith, refl, sym, ◌∙◌, ◌≡◌}
 use Rattle.arena_list.specs.Founded.{meter}
 use Rattle.arena_list.specs.Seats.{view}
-use Rattle.arena_list.proofs.SeatFacts.{take_step, mine_tells, took_value}
+use Rattle.arena_list.proofs.SeatFacts.{take_step, mine_tells, took_value, seated_took}
 use Rattle.arena_list.proofs.list.ArenaList.take_slot.Goals as goal
 
 pub swap-requires : goal.swap-requires
@@ -14,3 +14,8 @@ swap-requires g c = let o = c.args.seat.now.seated in let own = mine_tells (view
 pub exchange-requires : goal.exchange-requires
 exchange-requires g c = let own = mine_tells (view c.args.seat.now) _ c.requires.own in
     (search rules, took_value (meter g.V.Part.owner_of g.V.Part.life_of g.V.Part.used_of) c.requires.home.0 _ c.args.seat.now.seat.me _ (c.swap.ensures.2 c.requires.home.0 c.requires.home.1) own.1)
+
+pub invariant_of-seat : goal.invariant_of-seat
+invariant_of-seat g c = let own = mine_tells (view c.args.seat.now) _ c.requires.own in record {
+  seated = seated_took (meter g.V.Part.owner_of g.V.Part.life_of g.V.Part.used_of) c.requires.home.0 c.args.slot _ _ c.args.seat.now.seated c.requires.home.1 own.1 (c.swap.ensures.2 c.requires.home.0 c.requires.home.1) c.exchange.ensures.3;
+}
