@@ -295,6 +295,38 @@ fn two_callers_join_and_one_fills_its_part(rt: HostRuntime) -> Result<(), Fail> 
 }
 
 #[test]
+fn sizes_show_what_another_caller_gave_since(rt: HostRuntime) -> Result<(), Fail> {
+    let (spare, callers) = spares(rt.alloc(), 2)?;
+    let linked = Vec::new(rt.alloc());
+    let (list, mut seats) = made(rt.alloc(), linked, spare, callers.as_slice())?;
+    let slice = seats.as_mut_slice();
+    assert_eq!(rt; come(&list, slice, 0), (true, 0));
+    assert_eq!(rt; work(&list, slice, 1), (true, 1));
+    assert_eq!(rt; sizes(&list, slice, 0), 24);
+    let (linked, spare) = closed(rt.alloc(), list, seats)?;
+    assert!(rt; are(linked.as_slice(), &[(0, 4, 0), (1, 7, 24)]));
+    assert!(rt; spare.is_empty());
+    Ok(())
+}
+
+#[test]
+fn sizes_show_the_list_to_a_caller_that_has_not_joined(rt: HostRuntime) -> Result<(), Fail> {
+    let (spare, callers) = spares(rt.alloc(), 2)?;
+    let linked = Vec::new(rt.alloc());
+    let (list, mut seats) = made(rt.alloc(), linked, spare, callers.as_slice())?;
+    let slice = seats.as_mut_slice();
+    assert_eq!(rt; sizes(&list, slice, 0), 0);
+    assert_eq!(rt; work(&list, slice, 1), (true, 1));
+    assert_eq!(rt; sizes(&list, slice, 0), 24);
+    assert_eq!(rt; come(&list, slice, 0), (true, 0));
+    assert_eq!(rt; sizes(&list, slice, 0), 24);
+    let (linked, spare) = closed(rt.alloc(), list, seats)?;
+    assert!(rt; are(linked.as_slice(), &[(1, 7, 24), (0, 4, 0)]));
+    assert!(rt; spare.is_empty());
+    Ok(())
+}
+
+#[test]
 fn a_linked_entry_without_a_seat_counts_and_comes_through(rt: HostRuntime) -> Result<(), Fail> {
     let (spare, callers) = spares(rt.alloc(), 3)?;
     let mut linked = Vec::new(rt.alloc());
