@@ -1,6 +1,7 @@
 -- Lists read by `get_elem?`.
-use Rattle.std.proofs.Common.{◌≡◌, ℕ, zero, suc, ◌+◌, ◌<◌, ◌≤◌, ◌≢◌, ◌⊎◌, List, [], ◌∷◌, ◌++◌, length, set, sym, refl, ap, ◌∙◌, inl, inr, ⊎_elim, arith}
+use Rattle.std.proofs.Common.{◌≡◌, ℕ, zero, suc, ◌+◌, ◌<◌, ◌≤◌, ◌≢◌, ◌⊎◌, Bool, true, cond, List, [], ◌∷◌, ◌++◌, length, set, sym, refl, ap, ◌∙◌, inl, inr, ⊎_elim, arith}
 use Rattle.std.proofs.lemmas.List.{length-append}
+use Rattle.std.specs.Prelude.{filter}
 use mathlib.Core.Option.{some, some-injective, some-ne-none}
 use lib.ListN.{get_elem?}
 use Rattle.arena_list.specs.declared.view.Node.{Node}
@@ -31,6 +32,18 @@ module _ {A : Type 0} where
   at_end [] a b (suc j) e = absurd (some-ne-none b (sym e))
   at_end (x ∷ xs) a b zero e = inl e
   at_end (x ∷ xs) a b (suc j) e = ⊎_elim (λ t. inl t) (λ t. inr (ap suc t.0, t.1)) (at_end xs a b j e)
+
+  -- two lists of one length
+  pub same_elements : (xs ys : List A) → length xs ≡ length ys → ((k : ℕ) (a : A) → get_elem? xs k ≡ some a → get_elem? ys k ≡ some a) → xs ≡ ys
+  same_elements [] [] l h = refl
+  same_elements [] (y ∷ ys) l h = absurd (omega arith)
+  same_elements (x ∷ xs) [] l h = absurd (omega arith)
+  same_elements (x ∷ xs) (y ∷ ys) l h = let p : y ≡ x = some-injective y x (h 0 x refl) in let r = same_elements xs ys (omega arith) (λ k a e. h (suc k) a e) in (λ i. sym p i ∷ r i)
+
+  -- a filter that keeps all
+  pub all_kept : (p : A → Bool) (l : List A) → ((k : ℕ) (a : A) → get_elem? l k ≡ some a → p a ≡ true) → filter p l ≡ l
+  all_kept p [] h = refl
+  all_kept p (x ∷ xs) h = ap (λ (b : Bool). cond b (x ∷ filter p xs) (filter p xs)) (h 0 x refl) ∙ ap (λ (l : List A). x ∷ l) (all_kept p xs (λ k a e. h (suc k) a e))
 
   pub at_more : (l m : List A) (i : ℕ) (a : A) → get_elem? l i ≡ some a → get_elem? (l ++ m) i ≡ some a
   at_more [] m i a e = absurd (some-ne-none a (sym e))

@@ -13,35 +13,17 @@ use Rattle.arena_list.specs.declared.list.ArenaList.{ArenaList}
 use Rattle.arena_list.specs.declared.view.Hand.{Hand}
 use Rattle.arena_list.specs.Founded.{Meter, Differ, AreFit, Fits, has, slot, caller}
 use Rattle.arena_list.specs.Made.{IsMadeOf, AreFirst}
-use Rattle.arena_list.specs.Views.{first_hand, who, out}
+use Rattle.arena_list.specs.declared.view.View.{View}
+use Rattle.arena_list.specs.Views.{first_hand, who, out, HasSeenOwn}
 use Rattle.arena_list.specs.Seats.{view, SameList, IsHome}
 use Rattle.arena_list.specs.Closed.{AreAll}
-use Rattle.arena_list.proofs.Lists.{at_below, at_there, at_end}
+use Rattle.arena_list.proofs.Few.{or_at, at_mapped}
+use Rattle.arena_list.proofs.Lists.{at_below, at_there, at_end, same_elements, all_kept}
 use Rattle.arena_list.proofs.Seats.{at_append}
 use Rattle.arena_list.proofs.Opening.{has_at, entry_at}
 use Rattle.arena_list.proofs.Dealing.{hand_who}
 use Rattle.arena_list.proofs.Making.{fit_as}
-
-module _ {A : Type 0} where
-  at_mapped : {B : Type 0} (f : A → B) (l : List A) (i : ℕ) (b : B) → get_elem? (map f l) i ≡ some b → (a : A) × (get_elem? l i ≡ some a) × (f a ≡ b)
-  at_mapped f [] i b e = absurd (some-ne-none b (sym e))
-  at_mapped f (x ∷ xs) zero b e = (x, refl, some-injective (f x) b e)
-  at_mapped f (x ∷ xs) (suc i) b e = at_mapped f xs i b e
-
-  at_or : (l : List A) (i : ℕ) (a d : A) → get_elem? l i ≡ some a → a ≡ get_or l i d
-  at_or [] i a d e = absurd (some-ne-none a (sym e))
-  at_or (x ∷ xs) zero a d e = sym (some-injective x a e)
-  at_or (x ∷ xs) (suc i) a d e = at_or xs i a d e
-
-  same_elements : (xs ys : List A) → length xs ≡ length ys → ((k : ℕ) (a : A) → get_elem? xs k ≡ some a → get_elem? ys k ≡ some a) → xs ≡ ys
-  same_elements [] [] l h = refl
-  same_elements [] (y ∷ ys) l h = absurd (omega arith)
-  same_elements (x ∷ xs) [] l h = absurd (omega arith)
-  same_elements (x ∷ xs) (y ∷ ys) l h = let p : y ≡ x = some-injective y x (h 0 x refl) in let r = same_elements xs ys (omega arith) (λ k a e. h (suc k) a e) in (λ i. sym p i ∷ r i)
-
-  all_kept : (p : A → Bool) (l : List A) → ((k : ℕ) (a : A) → get_elem? l k ≡ some a → p a ≡ true) → filter p l ≡ l
-  all_kept p [] h = refl
-  all_kept p (x ∷ xs) h = ap (λ (b : Bool). cond b (x ∷ filter p xs) (filter p xs)) (h 0 x refl) ∙ ap (λ (l : List A). x ∷ l) (all_kept p xs (λ k a e. h (suc k) a e))
+use Rattle.arena_list.proofs.SeatFacts.{seen_own}
 
 -- spare entries for callers 4, 7, 10 and on, in slots 0, 1, 2 and on
 pub record AreSpares {V : Type 0} (m : Meter V) (spare : List (Entry V)) (callers : List ℕ) (n : ℕ) : Type 0 where
@@ -114,6 +96,10 @@ module _ {V : Type 0} (m : Meter V) (linked spare : List (Entry V)) (callers : L
     parts = λ i e at. ⊎_elim (λ s. (b.entry i e s).3) (λ s. (o.entry s.0 e s.2).2) (at_append linked spare i e at);
   }
 
+-- each seat has seen its own node
+own_of : {V : Type 0} {g : Ghosts V} (s : ListSeat V g) → HasSeenOwn (view s)
+own_of s = seen_own _ s.seated
+
 module _ {V : Type 0} {g : Ghosts V} (m : Meter V) (life : ℕ) (linked spare : List (Entry V)) (callers : List ℕ) (list : ArenaList V) (seats : List (ListSeat V g)) (fit : AreFit m life linked spare callers) (made : IsMadeOf life linked spare callers list) (first : AreFirst m list callers seats) where
   abbrev key : Founding V
   key = list.table.shared.key
@@ -125,24 +111,24 @@ module _ {V : Type 0} {g : Ghosts V} (m : Meter V) (life : ℕ) (linked spare : 
   is_home : (i c : ℕ) (s : ListSeat V g) → get_elem? callers i ≡ some c → get_elem? seats i ≡ some s → IsHome m list s
   is_home i c s a b = let r = first.each i c s a b in let e = r.1.0 in let p = entry_at (key.linked.items ++ key.spare.items) c e r.1.1 in
       let whose : who (view s) ≡ c = ap who r.1.2 ∙ hand_who m key key_fit i c (ap (λ (l : List ℕ). get_elem? l i) made.callers_are ∙ a) in
-      (r.0, (e.part, ap out r.1.2, subst (λ (w : ℕ). Fits m key.life w e.part) (p.2 ∙ sym whose) (key_fit.parts p.0 e p.1)))
+      (r.0, (e.part, ap out r.1.2, subst (λ (w : ℕ). Fits m key.life w e.part) (p.2 ∙ sym whose) (key_fit.parts p.0 e p.1)), ap (λ (v : View V). v.base) r.1.2, own_of s)
 
   -- each seat that `make` gives has its value at home
   pub all_home : All (IsHome m list) seats
   all_home k d low = let s = at_there seats k low in let c = at_there callers k (let n = first.count in omega arith) in
-      subst (IsHome m list) (at_or seats k s.0 d s.1) (is_home k c.0 s.0 c.1 s.1)
+      subst (IsHome m list) (sym (or_at seats k d s.0 s.1)) (is_home k c.0 s.0 c.1 s.1)
 
-module _ {V : Type 0} {g : Ghosts V} (m : Meter V) (list : ArenaList V) (s t : ListSeat V g) (same : SameList s t) (is : (view t).hands ≡ (view s).hands) where
+module _ {V : Type 0} {g : Ghosts V} (m : Meter V) (list : ArenaList V) (s t : ListSeat V g) (same : SameList s t) (is : (view t).hands ≡ (view s).hands) (based : (view t).base ≡ (view s).base) where
   -- a call that leaves the hands
   pub home_kept : IsHome m list s → IsHome m list t
-  home_kept o = (same ∙ o.0, (o.1.0, ap (λ (h : List (Hand V)). (first_hand h).hold) is ∙ o.1.1, subst (λ (w : ℕ). Fits m list.table.shared.key.life w o.1.0) (ap (λ (h : List (Hand V)). (first_hand h).who) (sym is)) o.1.2))
+  home_kept o = (same ∙ o.0, (o.1.0, ap (λ (h : List (Hand V)). (first_hand h).hold) is ∙ o.1.1, subst (λ (w : ℕ). Fits m list.table.shared.key.life w o.1.0) (ap (λ (h : List (Hand V)). (first_hand h).who) (sym is)) o.1.2), based ∙ o.2, own_of t)
 
 module _ {V : Type 0} {g : Ghosts V} (m : Meter V) where
   -- what `close` asks
   pub all_back : (list : ArenaList V) (seats : List (ListSeat V g)) → length seats ≡ length list.table.shared.key.callers.items → All (IsHome m list) seats → AreAll list seats
   all_back list seats count home = record {
     count = count;
-    each = λ k s at. let h : IsHome m list s = subst (IsHome m list) (sym (at_or seats k s s at)) (home k s (at_below seats k s at)) in (h.0, (h.1.0, h.1.1));
+    each = λ k s at. let h : IsHome m list s = subst (IsHome m list) (or_at seats k s s at) (home k s (at_below seats k s at)) in (h.0, (h.1.0, h.1.1));
   }
 
   -- the same of what a refusal hands back

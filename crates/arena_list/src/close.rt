@@ -5,7 +5,7 @@ ghost use mathlib.Core.Option.{some};
 ghost use lib.ListN.{get_elem?};
 ghost use Rattle.arena_list.specs.Founded.{meter};
 ghost use Rattle.arena_list.specs.Views.{shown};
-ghost use Rattle.arena_list.specs.Seats.{view};
+ghost use Rattle.arena_list.specs.Seats.{view, life_of};
 ghost use Rattle.arena_list.specs.Closed.{HasTold, Rested, AreAll, AreApart, AreAtMost, AreLinked, used_sum, hand_of, slots_of, spares_of};
 
 use crate::collect::{place_others, pull_linked, pull_spares};
@@ -123,19 +123,21 @@ fn free_parts<V: Part>(mut parts: Vec<Option<V>>)
 }
 
 impl<V: Part> ArenaList<V> {
-    /// The linked entries, oldest first, and the spare ones, in the order of the seats, each with its value. All seats
-    /// that `make` gave come back, and none has its slot out. Want of memory hands everything back.
+    /// The linked entries, oldest first, and the spare ones, in the order of the seats, each with its value. Want of
+    /// memory hands everything back.
+    ///
+    /// All seats that `make` gave come back, in any order, and none has its slot out.
     pub fn close(
         self,
         alloc: Global,
         seats: Vec<ListSeat<V>>,
     ) -> Result<(Vec<Entry<V>>, Vec<Entry<V>>), (NoMemory, ArenaList<V>, Vec<ListSeat<V>>)>
-        requires { AreAll self seats.items }
+        requires all { AreAll self seats.items }
         ensures linked { IfOk result (λ r. AreLinked self seats.items r.0.items) }
         ensures spares { IfOk result (λ r. r.1.items ≡ spares_of (map hand_of seats.items)) }
         // each answer that a seat got of `sizes` is at most what the linked entries use now
         ensures used { IfOk result (λ r. (k : ℕ) (s : _) → get_elem? seats.items k ≡ some s → shown (view s) ≤ used_sum (meter V.owner_of V.life_of V.used_of) r.0.items) }
-        ensures apart { IfOk result (λ r. AreApart (meter V.owner_of V.life_of V.used_of) self.table.shared.key.life (r.0.items ++ r.1.items)) }
+        ensures apart { IfOk result (λ r. AreApart (meter V.owner_of V.life_of V.used_of) (life_of self) (r.0.items ++ r.1.items)) }
         ensures refused { IfErr result (λ e. (e.1 ≡ self) × (e.2.items ≡ seats.items)) }
     {
         let Ok(rooms) = make_rooms(alloc, seats.len()) else {

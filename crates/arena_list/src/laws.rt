@@ -5,5 +5,5 @@ ghost use Rattle.arena_list.specs.Words.{Show, AreSmall};
 
 /// A law: the words show one list at most, so the list is a function of the words.
 pub fn words_show_one_list()
-    ensures { (c d : Core) (words : List ℕ) → Show c words → Show d words → AreSmall c.joined → AreSmall d.joined → c.joined ≡ d.joined }
+    ensures one_list { (c d : Core) (words : List ℕ) → Show c words → Show d words → AreSmall c.joined → AreSmall d.joined → c.joined ≡ d.joined }
 {}

@@ -2,7 +2,8 @@
 //!
 //! It stands between the parts, which each of several callers fills alone, and the arena that is shared by threads.
 //! Its contract, over every interleaving of steps: the list is one list that only grows, each caller has one slot in it
-//! or beside it, and a value is in its slot or out with the one seat whose slot it is. No call waits.
+//! or beside it, and the value of a caller with a seat is in the caller's slot or out with that seat. The values of
+//! linked callers without a seat lie with the list, where no step reaches them. No call waits.
 #![tactic(auto)]
 
 mod close;

@@ -166,6 +166,10 @@ fn rooms<V: Part>(
 impl<V: Part> ArenaList<V> {
     /// A list of the linked entries, oldest first, and a seat for each caller, in their order. A caller that no linked
     /// entry has gets its spare one. Want of memory hands all entries back.
+    ///
+    /// All slots differ and are below 64. The callers differ, there is one at least, and no two linked entries have one
+    /// caller. The spare entries are those of the callers that no linked entry has, in the order of the callers. Each
+    /// part has its entry's caller as owner, this life, and less than 2^63 bytes used.
     pub fn make(
         alloc: Global,
         life: u64,
@@ -173,7 +177,7 @@ impl<V: Part> ArenaList<V> {
         spare: Vec<Entry<V>>,
         callers: &[u32],
     ) -> Result<(ArenaList<V>, Vec<ListSeat<V>>), (NoMemory, Vec<Entry<V>>, Vec<Entry<V>>)>
-        requires { AreFit (meter V.owner_of V.life_of V.used_of) life linked.items spare.items callers.now }
+        requires fit { AreFit (meter V.owner_of V.life_of V.used_of) life linked.items spare.items callers.now }
         ensures list { IfOk result (λ r. IsMadeOf life linked.items spare.items callers.now r.0) }
         ensures seats { IfOk result (λ r. AreFirst (meter V.owner_of V.life_of V.used_of) r.0 callers.now r.1.items) }
         ensures refused { IfErr result (λ e. (e.1.items ≡ linked.items) × (e.2.items ≡ spare.items)) }

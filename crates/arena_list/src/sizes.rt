@@ -17,7 +17,7 @@ impl<V: Part> ArenaList<V> {
     /// caller's own part and each answer that this seat got before. It takes no memory, one list step for the look and
     /// one for each node.
     pub fn sizes(&self, seat: &mut ListSeat<V>) -> u128
-        requires { IsSeatOf self.now seat.old }
+        requires list { IsSeatOf self.now seat.old }
         ensures list { SameList seat.old seat.new }
         ensures summed { HasSummed (meter V.owner_of V.life_of V.used_of) (view seat.old) (view seat.new) result }
     {

@@ -4,7 +4,7 @@ ghost use Rattle.arena_list.specs.declared.view.Hold.TheVariants.{Vacant, Fillin
 ghost use Rattle.arena_list.specs.Founded.{meter, Fits};
 ghost use Rattle.arena_list.specs.Views.{who, mine, out, shown};
 ghost use Rattle.arena_list.specs.Steps.{IsOut, used_now, held, settled};
-ghost use Rattle.arena_list.specs.Seats.{view, IsSeatOf, SameList};
+ghost use Rattle.arena_list.specs.Seats.{view, life_of, IsSeatOf, SameList};
 
 use crate::list::{ArenaList, ListSeat, Words};
 use crate::plays::{Claim, Give, Take};
@@ -42,7 +42,7 @@ impl<V: Part> ArenaList<V> {
         requires own { mine (view seat.old) ≡ Some slot }
         // the slot is out, and the value has at least the used sum that it had when it was taken
         requires out { (used : ℕ) × (out (view seat.old) ≡ Away used) × (used ≤ V.used_of part) }
-        requires part { Fits (meter V.owner_of V.life_of V.used_of) self.now.table.shared.key.life (who (view seat.old)) part }
+        requires part { Fits (meter V.owner_of V.life_of V.used_of) (life_of self.now) (who (view seat.old)) part }
         ensures list { SameList seat.old seat.new }
         ensures view { view seat.new ≡ settled (meter V.owner_of V.life_of V.used_of) (view seat.old) part }
         // what a seat was shown never falls

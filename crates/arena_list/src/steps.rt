@@ -22,7 +22,7 @@ pub(crate) const NODES: usize = 8;
 /// The word of the state of slot 0.
 pub(crate) const STATES: usize = 80;
 
-/// How many words lie between the states of two slots, so that no two of them share a line of 64 bytes.
+/// How many words the state of a slot stands behind that of the slot before, so that no two share a line of 64 bytes.
 pub(crate) const STRIDE: usize = 8;
 
 /// What a word counts in its upper half.

@@ -13,7 +13,7 @@ impl<V: Part> ArenaList<V> {
     /// The caller's slot, or `None` exactly where the list that was looked at has no node of the caller. It takes no
     /// memory, and at most a list step for the look and one for each node.
     pub fn find(&self, seat: &mut ListSeat<V>) -> Option<u32>
-        requires { IsSeatOf self.now seat.old }
+        requires list { IsSeatOf self.now seat.old }
         ensures list { SameList seat.old seat.new }
         ensures found { HasFound (meter V.owner_of V.life_of V.used_of) (view seat.old) (view seat.new) result }
     {
