@@ -16,6 +16,7 @@ use Rattle.arena_list.proofs.Few.{at_map, at_mapped}
 use Rattle.arena_list.proofs.Opening.{entry_for, filter_tells, differ_tail, differ_cons}
 use Rattle.arena_list.proofs.Searches.{entry_first}
 use Rattle.arena_list.proofs.Filling.{all_once}
+use Rattle.arena_list.proofs.SeatFacts.{seen_own}
 use Rattle.arena_list.specs.Made.{AreSeats, AreFirst, view_with, given, claimed_view}
 
 module _ {V : Type 0} (m : Meter V) (life : ℕ) (l l' s s' : List (Entry V)) (c c' : List ℕ) where
@@ -70,4 +71,5 @@ module _ {V : Type 0} {g : Ghosts V} (m : Meter V) (list : ArenaList V) (fit : A
     count = o.count ∙ ap length p;
     each = λ i who s a b. let at = ap (λ (l : List ℕ). get_elem? l i) p ∙ a in let t = o.each i who s at b in let e = own_entry i who at in
         (t.0, (e.0, e.1, t.1 ∙ ap (λ (l : List (Entry V)). view_with m key l who) q ∙ ap (given m (claimed_view key who)) e.1));
+    own = λ i s at. seen_own _ s.seated;
   }

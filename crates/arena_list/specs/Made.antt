@@ -10,9 +10,10 @@ use Rattle.arena_list.specs.declared.list.ListSeat.{ListSeat}
 use Rattle.arena_list.specs.declared.view.Hold.TheVariants.{Filling}
 use Rattle.arena_list.specs.declared.view.View.{View}
 use Rattle.arena_list.specs.Founded.{Meter, entry_of, hand_for, node_of, others_of}
+use Rattle.arena_list.specs.Views.{HasSeenOwn}
 use Rattle.arena_list.specs.Steps.{settled}
 use Rattle.arena_list.specs.declared.list.ArenaList.{ArenaList}
-use Rattle.arena_list.specs.Seats.{view, IsSeatOf}
+use Rattle.arena_list.specs.Seats.{view, founding_of, IsSeatOf}
 
 module _ {V : Type 0} where
   -- the view of a caller's seat whose slot isn't filled yet
@@ -49,8 +50,9 @@ module _ {V : Type 0} where
     pub others_are : list.others.items ≡ others_of linked callers
 
 module _ {V : Type 0} {g : Ghosts V} where
-  -- a seat of the list for each of these callers, in their order. Its view is that of the caller's linked entry, or else its spare one, which is in its slot; it has seen the list, and made no step
+  -- a seat of the list for each of these callers, in their order. Its view is that of the caller's linked entry, or else its spare one, which is in its slot; it has seen the list with the own node, where that is linked, and made no step
   pub record AreFirst (m : Meter V) (list : ArenaList V) (callers : List ℕ) (seats : List (ListSeat V g)) : Type 0 where
     pub count : length seats ≡ length callers
     pub each : (i who : ℕ) (s : ListSeat V g) → get_elem? callers i ≡ some who → get_elem? seats i ≡ some s → IsSeatOf list s
-        × ((e : Entry V) × (entry_of (list.table.shared.key.linked.items ++ list.table.shared.key.spare.items) who ≡ Some e) × (view s ≡ settled m (claimed_view list.table.shared.key who) e.part))
+        × ((e : Entry V) × (entry_of ((founding_of list).linked.items ++ (founding_of list).spare.items) who ≡ Some e) × (view s ≡ settled m (claimed_view (founding_of list) who) e.part))
+    pub own : (i : ℕ) (s : ListSeat V g) → get_elem? seats i ≡ some s → HasSeenOwn (view s)
