@@ -3,8 +3,9 @@
 
 On one thread and on four, each with a caller of its own. The rounds run in a copy of crates/, in the place of the one
 take and give with which arena_list's tests fill a part, and are proved and built there. The C program exchanges and
-stores as often, on words of its own that lie as far apart. Each prints the best of 99 runs, since a short run is
-more likely to have all its processors to itself.
+stores as often, on words of its own that lie as far apart, and makes neither of the two loads of the own word with
+which a take and a give of ours begin or end. Each prints the best of 99 runs, since a short run is more likely to have
+all its processors to itself.
 
 Each thread works for the first of 16 callers, so that the seats and the parts of those at work, which the tests keep
 side by side, share no line of 64 bytes: only the words of the list keep that distance by themselves.
@@ -36,6 +37,7 @@ FIRST_OF_16 = """    if seats.len() < 17 {
         if seats.len() > 0 {
 """
 INVARIANT = """use Rattle.std.proofs.Common.{◌≡◌, Some}
+use Rattle.arena_list.specs.contracts.tests.Counter.{the_row}
 use Rattle.arena_list.specs.declared.tests.Counter.{Counter}
 use Rattle.arena_list.specs.Founded.{meter}
 use Rattle.arena_list.specs.Views.{mine}
@@ -43,14 +45,14 @@ use Rattle.arena_list.specs.Seats.{view, IsHome}
 use Rattle.arena_list.proofs.tests.fill.Given as goal
 
 abbrev pub invariant-loop : goal.invariant-loop
-invariant-loop l = IsHome (meter (λ (c : Counter). c.owner) (λ (c : Counter). c.life) (λ (c : Counter). c.used)) l.list l.seat × (mine (view l.seat) ≡ Some l.slot)
+invariant-loop l = IsHome the_row.coded (meter (λ (c : Counter). c.owner) (λ (c : Counter). c.life) (λ (c : Counter). c.used)) l.list l.seat × (mine (view l.seat) ≡ Some l.slot)
 """
 TIMES = """
 use std::time::{Clock, Instant};
 
-fn time<R: Threads + Clock + Sync>(rt: &R, list: &ArenaList<Counter>, seats: &mut [ListSeat<Counter>]) -> Result<u64, Fail>
-    requires { AreHome (meter (λ (c : Counter). c.owner) (λ (c : Counter). c.life) (λ (c : Counter). c.used)) list.now (length seats.old) seats.old }
-    ensures { IfOk result (λ r. AreHome (meter (λ (c : Counter). c.owner) (λ (c : Counter). c.life) (λ (c : Counter). c.used)) list.now (length seats.old) seats.new) }
+fn time<R: Threads + Clock + Sync>(rt: &R, list: &ArenaList<Counter>, seats: &mut [ListSeat]) -> Result<u64, Fail>
+    requires { AreHome the_row.coded (meter (λ (c : Counter). c.owner) (λ (c : Counter). c.life) (λ (c : Counter). c.used)) list.now (length seats.old) seats.old }
+    ensures { IfOk result (λ r. AreHome the_row.coded (meter (λ (c : Counter). c.owner) (λ (c : Counter). c.life) (λ (c : Counter). c.used)) list.now (length seats.old) seats.new) }
 {
     let start = Instant::now(rt)?;
     work_all(rt, list, seats);

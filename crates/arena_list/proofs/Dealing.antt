@@ -4,20 +4,21 @@ use Rattle.std.proofs.lemmas.Bool.{false≢true}
 use Rattle.std.proofs.lemmas.List.{length-append}
 use mathlib.Core.Option.{some, some-injective, some-ne-none}
 use lib.ListN.{get_elem?}
-use Rattle.arena_mem.specs.declared.part.Part.{Ghosts}
+use base.Stored.{Coded}
 use Rattle.atomic_table.specs.Seated.{TableId}
 use Rattle.atomic_table.proofs.Lists.{drop_at}
 use Rattle.arena_list.specs.declared.entry.Entry.{Entry}
 use Rattle.arena_list.specs.declared.founding.Founding.{Founding}
 use Rattle.arena_list.specs.declared.list.ListSeat.{ListSeat}
-use Rattle.arena_list.specs.declared.view.Hold.TheVariants.{Vacant, Filling}
+use Rattle.arena_list.specs.declared.view.Hold.TheVariants.{Vacant}
+use Rattle.arena_list.specs.declared.view.Hold.{Hold}
 use Rattle.arena_list.specs.declared.view.Hand.{Hand}
 use Rattle.arena_list.specs.declared.view.View.{View}
 use Rattle.arena_list.specs.Nodes.{node, before, head_of, HasNode, LacksNode}
 use Rattle.arena_list.specs.Views.{hand, first_hand}
 use Rattle.arena_list.specs.Founded.{Meter, AreFit, node_of, hand_for, first_view}
-use Rattle.arena_list.specs.Steps.{Sat, IsSeated, dealt, undealt, held, used_now, carried_of, rest_of}
-use Rattle.arena_list.specs.Made.{AreSeats, view_with}
+use Rattle.arena_list.specs.Steps.{Sat, IsSeated, dealt, undealt, used_now, rest_of}
+use Rattle.arena_list.specs.Made.{AreSeats, view_with, claimed_view}
 use Rattle.arena_list.specs.Seats.{view}
 use Rattle.arena_list.proofs.Lists.{at_below, at_end}
 use Rattle.arena_list.proofs.Few.{len_map, at_map}
@@ -95,15 +96,12 @@ module _ {V : Type 0} (m : Meter V) (k : Founding V) (fit : AreFit m k.life k.li
         own = λ e. subst (λ (x : Sat V). ¬ LacksNode x.0.seen slot c) back (λ none. let has = hand_seen slot slot_is (sym linked_is ∙ e) in none has.0 has.1);
         few = subst (λ (x : Sat V). length x.0.seen ≤ 64) back (omega arith);
         fewer = λ e. subst (λ (x : Sat V). length x.0.seen < 64) back (let f = hand_fewer (sym linked_is ∙ e) in omega arith);
-        carries = ap (λ (x : Sat V). x.1) all ∙ ap (carried_of (hand_for k c).slot) (sym hand_vacant) ∙ ap (λ (x : Sat V). carried_of (hand x.0).slot (hand x.0).hold) back;
+        free = ap (λ (x : Sat V). x.1) all;
       }
 
-  -- its slot isn't filled, and then it is taken
-  pub new_vacant : (v : View V) → v ≡ dealt (remaining k i) → (hand v).hold ≡ Vacant
-  new_vacant v is = ap (λ (v : View V). (hand v).hold) is ∙ ap (λ (v : View V). (hand v).hold) (remaining_first k i c at) ∙ hand_vacant
-
-  pub new_claimed : (v w : View V) → v ≡ dealt (remaining k i) → w ≡ held v Filling → w ≡ view_with m k [] c
-  new_claimed v w is step = step ∙ ap (λ (v : View V). held v Filling) (is ∙ remaining_first k i c at)
+  -- its slot isn't filled
+  pub new_view : (v : View V) → v ≡ dealt (remaining k i) → v ≡ claimed_view k c
+  new_view v is = is ∙ remaining_first k i c at ∙ ap (λ (x : Hold V). record (first_view k) { hands = record (hand_for k c) { hold = x } ∷ [] }) hand_vacant
 
 take_more : (l : List ℕ) (i c : ℕ) → get_elem? l i ≡ some c → take (i + 1) l ≡ take i l ++ c ∷ []
 take_more l i c e = ap (λ (n : ℕ). take n l) (let z : i + 1 ≡ suc i = omega arith in z) ∙ more l i c e where
@@ -113,17 +111,17 @@ take_more l i c e = ap (λ (n : ℕ). take n l) (let z : i + 1 ≡ suc i = omega
   more (x ∷ xs) (suc i) c e = ap (λ (l : List ℕ). x ∷ l) (more xs i c e)
 
 -- one seat more
-module _ {V : Type 0} {g : Ghosts V} (m : Meter V) (k : Founding V) (table : TableId) (callers : List ℕ) (done : List (Entry V)) where
-  pub seats_none : AreSeats {V = V} {g = g} m k table (take 0 callers) done []
+module _ {V : Type 0} (cd : Coded V) (m : Meter V) (k : Founding V) (table : TableId) (callers : List ℕ) (done : List (Entry V)) where
+  pub seats_none : AreSeats cd m k table (take 0 callers) done []
   seats_none = record { count = refl; each = λ i who s a b. absurd (some-ne-none s (sym b)) }
 
-  pub seats_more : (i c : ℕ) (seats : List (ListSeat V g)) (s : ListSeat V g) → get_elem? callers i ≡ some c → AreSeats m k table (take i callers) done seats → s.seat.table_id ≡ table → view s ≡ view_with m k done c
-      → AreSeats m k table (take (i + 1) callers) done (seats ++ s ∷ [])
-  seats_more i c seats s at o of is = subst (λ (l : List ℕ). AreSeats m k table l done (seats ++ s ∷ [])) (sym (take_more callers i c at)) record {
+  pub seats_more : (i c : ℕ) (seats : List ListSeat) (s : ListSeat) → get_elem? callers i ≡ some c → AreSeats cd m k table (take i callers) done seats → s.badge.table_id ≡ table → view s ≡ view_with cd m k done c
+      → AreSeats cd m k table (take (i + 1) callers) done (seats ++ s ∷ [])
+  seats_more i c seats s at o of is = subst (λ (l : List ℕ). AreSeats cd m k table l done (seats ++ s ∷ [])) (sym (take_more callers i c at)) record {
     count = length-append seats (s ∷ []) ∙ ap (λ (n : ℕ). n + 1) o.count ∙ sym (length-append (take i callers) (c ∷ []));
     each = λ j who t a b. ⊎_elim
         (λ p. ⊎_elim (λ q. o.each j who t p q) (λ q. absurd (let l = at_below (take i callers) j who p in let e = o.count in let z : j ≡ length seats = q.0 in omega arith)) (at_end seats s t j b))
         (λ p. ⊎_elim (λ q. absurd (let l = at_below seats j t q in let e = o.count in let z : j ≡ length (take i callers) = p.0 in omega arith))
-        (λ q. (ap (λ (x : ListSeat V g). x.seat.table_id) (sym q.1) ∙ of, ap (λ (x : ListSeat V g). view x) (sym q.1) ∙ is ∙ ap (view_with m k done) p.1)) (at_end seats s t j b))
+        (λ q. (ap (λ (x : ListSeat). x.badge.table_id) (sym q.1) ∙ of, ap (λ (x : ListSeat). view x) (sym q.1) ∙ is ∙ ap (view_with cd m k done) p.1)) (at_end seats s t j b))
         (at_end (take i callers) c who j a);
   }

@@ -4,7 +4,7 @@ use Rattle.std.proofs.lemmas.Bool.{false≢true}
 use Rattle.std.proofs.lemmas.List.{length-append, append_assoc, append-nil, reverse-append}
 use mathlib.Core.Option.{some}
 use lib.ListN.{get_elem?}
-use Rattle.arena_mem.specs.declared.part.Part.{Ghosts}
+use base.Stored.{Coded}
 use Rattle.atomic_table.specs.Seated.{TableId}
 use Rattle.arena_list.specs.declared.entry.Entry.{Entry}
 use Rattle.arena_list.specs.declared.founding.Founding.{Founding}
@@ -76,24 +76,24 @@ module _ {V : Type 0} (callers : List ℕ) (before gone : List (Entry V)) (e : E
       ∙ ap (λ (b : Bool). before ++ reverse (cond (not b) (e ∷ others_of gone callers) (others_of gone callers))) (sym f)
 
 -- what is filled of the entries `start`, from the last on
-pub record IsFilling {V : Type 0} {g : Ghosts V} (m : Meter V) (k : Founding V) (table : TableId) (start todo earlier others_before others : List (Entry V)) (room : ℕ) (seats : List (ListSeat V g)) : Type 0 where
+pub record IsFilling {V : Type 0} (cd : Coded V) (m : Meter V) (k : Founding V) (table : TableId) (start todo earlier others_before others : List (Entry V)) (room : ℕ) (seats : List ListSeat) : Type 0 where
   pub gone : List (Entry V)
   pub split : start ≡ todo ++ gone
-  pub seats_are : AreSeats m k table k.callers.items (gone ++ earlier) seats
+  pub seats_are : AreSeats cd m k table k.callers.items (gone ++ earlier) seats
   pub others_are : others ≡ others_before ++ reverse (others_of gone k.callers.items)
   pub fits : length others + length todo ≤ room
 
-module _ {V : Type 0} {g : Ghosts V} (m : Meter V) (k : Founding V) (table : TableId) (start earlier others_before : List (Entry V)) where
-  pub fill_starts : (room : ℕ) (seats : List (ListSeat V g)) → AreSeats m k table k.callers.items earlier seats → length others_before + length start ≤ room → IsFilling m k table start start earlier others_before others_before room seats
+module _ {V : Type 0} (cd : Coded V) (m : Meter V) (k : Founding V) (table : TableId) (start earlier others_before : List (Entry V)) where
+  pub fill_starts : (room : ℕ) (seats : List ListSeat) → AreSeats cd m k table k.callers.items earlier seats → length others_before + length start ≤ room → IsFilling cd m k table start start earlier others_before others_before room seats
   fill_starts room seats o fits = record { gone = []; split = sym (append-nil start); seats_are = o; others_are = sym (append-nil others_before); fits = fits }
 
-  pub fill_ends : (others : List (Entry V)) (todo : List (Entry V)) (room : ℕ) (seats : List (ListSeat V g)) → todo ≡ [] → IsFilling m k table start todo earlier others_before others room seats
-      → AreSeats m k table k.callers.items (start ++ earlier) seats × (others ≡ others_before ++ reverse (others_of start k.callers.items))
+  pub fill_ends : (others : List (Entry V)) (todo : List (Entry V)) (room : ℕ) (seats : List ListSeat) → todo ≡ [] → IsFilling cd m k table start todo earlier others_before others room seats
+      → AreSeats cd m k table k.callers.items (start ++ earlier) seats × (others ≡ others_before ++ reverse (others_of start k.callers.items))
   fill_ends others todo room seats none_left o = let all : start ≡ o.gone = o.split ∙ ap (λ (l : List (Entry V)). l ++ o.gone) none_left in
-      (subst (λ (l : List (Entry V)). AreSeats m k table k.callers.items (l ++ earlier) seats) (sym all) o.seats_are, o.others_are ∙ ap (λ (l : List (Entry V)). others_before ++ reverse (others_of l k.callers.items)) (sym all))
+      (subst (λ (l : List (Entry V)). AreSeats cd m k table k.callers.items (l ++ earlier) seats) (sym all) o.seats_are, o.others_are ∙ ap (λ (l : List (Entry V)). others_before ++ reverse (others_of l k.callers.items)) (sym all))
 
-  module _ (fit : AreFit m k.life k.linked.items k.spare.items k.callers.items) (front : List (Entry V)) (whole : front ++ (start ++ earlier) ≡ k.linked.items ++ k.spare.items) (others todo rest : List (Entry V)) (e : Entry V) (room : ℕ) (seats : List (ListSeat V g))
-      (o : IsFilling m k table start todo earlier others_before others room seats) (pop : todo ≡ rest ++ e ∷ []) where
+  module _ (fit : AreFit m k.life k.linked.items k.spare.items k.callers.items) (front : List (Entry V)) (whole : front ++ (start ++ earlier) ≡ k.linked.items ++ k.spare.items) (others todo rest : List (Entry V)) (e : Entry V) (room : ℕ) (seats : List ListSeat)
+      (o : IsFilling cd m k table start todo earlier others_before others room seats) (pop : todo ≡ rest ++ e ∷ []) where
     piece : front ++ ((rest ++ e ∷ []) ++ (o.gone ++ earlier)) ≡ k.linked.items ++ k.spare.items
     piece = ap (λ (l : List (Entry V)). front ++ l) (append_assoc' (rest ++ e ∷ []) o.gone earlier ∙ ap (λ (l : List (Entry V)). l ++ earlier) (ap (λ (l : List (Entry V)). l ++ o.gone) (sym pop) ∙ sym o.split)) ∙ whole where
       append_assoc' : (a b c : List (Entry V)) → a ++ (b ++ c) ≡ (a ++ b) ++ c
@@ -111,10 +111,10 @@ module _ {V : Type 0} {g : Ghosts V} (m : Meter V) (k : Founding V) (table : Tab
     next_room : length rest + 1 ≡ length todo
     next_room = sym (ap length pop ∙ length-append rest (e ∷ []))
 
-    pub fill_same : (new : List (ListSeat V g)) → AreSeats m k table k.callers.items (e ∷ (o.gone ++ earlier)) new → has k.callers.items e.caller ≡ true → IsFilling m k table start rest earlier others_before others room new
+    pub fill_same : (new : List ListSeat) → AreSeats cd m k table k.callers.items (e ∷ (o.gone ++ earlier)) new → has k.callers.items e.caller ≡ true → IsFilling cd m k table start rest earlier others_before others room new
     fill_same new a h = record { gone = e ∷ o.gone; split = next_split; seats_are = a; others_are = o.others_are ∙ others_same k.callers.items others_before o.gone e h; fits = (let f = o.fits in let n = next_room in omega arith) }
 
-    pub fill_other : (new : List (ListSeat V g)) (others' : List (Entry V)) → AreSeats m k table k.callers.items (e ∷ (o.gone ++ earlier)) new → has k.callers.items e.caller ≡ false → others' ≡ others ++ e ∷ [] → IsFilling m k table start rest earlier others_before others' room new
+    pub fill_other : (new : List ListSeat) (others' : List (Entry V)) → AreSeats cd m k table k.callers.items (e ∷ (o.gone ++ earlier)) new → has k.callers.items e.caller ≡ false → others' ≡ others ++ e ∷ [] → IsFilling cd m k table start rest earlier others_before others' room new
     fill_other new others' a h more = record {
       gone = e ∷ o.gone;
       split = next_split;
@@ -127,6 +127,6 @@ pub no_items : {A : Type 0} (l : List A) → length l ≡ 0 → l ≡ []
 no_items [] e = refl
 no_items (x ∷ xs) e = absurd (omega arith)
 
-module _ {V : Type 0} {g : Ghosts V} (m : Meter V) (k : Founding V) (table : TableId) (start todo earlier others_before others : List (Entry V)) (seats : List (ListSeat V g)) where
-  pub fill_wider : (room room' : ℕ) → room ≤ room' → IsFilling m k table start todo earlier others_before others room seats → IsFilling m k table start todo earlier others_before others room' seats
+module _ {V : Type 0} (cd : Coded V) (m : Meter V) (k : Founding V) (table : TableId) (start todo earlier others_before others : List (Entry V)) (seats : List ListSeat) where
+  pub fill_wider : (room room' : ℕ) → room ≤ room' → IsFilling cd m k table start todo earlier others_before others room seats → IsFilling cd m k table start todo earlier others_before others room' seats
   fill_wider room room' more o = record { gone = o.gone; split = o.split; seats_are = o.seats_are; others_are = o.others_are; fits = (let f = o.fits in omega arith) }

@@ -122,8 +122,8 @@ module _ {V : Type 0} (m : Meter V) (k : Founding V) where
 
   pub hold_as : (c : Core) (hs : Homes V) (h g : Hand V) (x : Hold V) → g.slot ≡ h.slot → g.who ≡ h.who → (h.linked ≡ true → g.linked ≡ true) → HoldsAt m k.life c hs h x → HoldsAt m k.life c hs g x
   hold_as c hs h g Vacant s w l x = (ap c.standing s ∙ x.0, ap (get_elem? hs) s ∙ x.1)
-  hold_as c hs h g Filling s w l x = ap c.standing s ∙ x
-  hold_as c hs h g (Away used) s w l x = (ap c.standing s ∙ x.0, l x.1)
+  hold_as c hs h g (Filling used) s w l x = ap c.standing s ∙ x
+  hold_as c hs h g (Away used) s w l x = (ap c.standing s ∙ x.0, ap (get_elem? hs) s ∙ x.1, l x.2)
   hold_as c hs h g (Rests part) s w l x = (ap c.standing s ∙ x.0, ap (get_elem? hs) s ∙ x.1, subst (λ (who : ℕ). Fits m k.life who part) (sym w) x.2)
 
   pub notes : (slots id new : ℕ) (me : Sat V) → length me.0.hands ≡ 1 → (hand me.0).linked ≡ false → new ≡ node_word (hand me.0).who (next_link me.0)

@@ -2,6 +2,7 @@ mod Ghosts
 pub mod Lists
 pub mod Moved
 pub mod Few
+pub mod Pulled
 pub mod Links
 pub mod Keeps
 pub mod Linking
@@ -9,7 +10,9 @@ pub mod States
 pub mod Seats
 pub mod Joining
 pub mod Opening
+pub mod Marked
 pub mod SeatFacts
+pub mod Badges
 pub mod Walks
 pub mod FirstWords
 pub mod Searches
@@ -24,3 +27,4 @@ pub mod Closing
 pub mod Collecting
 pub mod Ending
 pub mod Gathering
+pub mod Ended

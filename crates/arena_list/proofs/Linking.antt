@@ -97,7 +97,7 @@ module _ {V : Type 0} (m : Meter V) (k : Founding V) where
         record { seen = subst (λ (l : List Node). Begins l more) (sym appended) (begins_itself more); room = knows.room; pasts = λ i nodes e. begins_on (knows.pasts i nodes e) (begins_more J (own_node v ∷ [])); sizes = knows.sizes } where
           hold_in : (x : Hold V) → HoldsAt m k.life r.core s.homes h x → HoldsAt m k.life (core more r.core.standing) s.homes h x
           hold_in Vacant x = x
-          hold_in Filling x = x
+          hold_in (Filling used) x = x
           hold_in (Away used) x = x
           hold_in (Rests part) x = x
 

@@ -4,7 +4,7 @@ use Rattle.std.specs.Prelude.{filter}
 use Rattle.std.proofs.lemmas.List.{reverse-reverse}
 use mathlib.Core.Option.{some}
 use lib.ListN.{get_elem?}
-use Rattle.arena_mem.specs.declared.part.Part.{Ghosts}
+use base.Stored.{Coded}
 use Rattle.arena_list.specs.declared.entry.Entry.{Entry}
 use Rattle.arena_list.specs.declared.founding.Founding.{Founding}
 use Rattle.arena_list.specs.declared.list.ListSeat.{ListSeat}
@@ -16,6 +16,7 @@ use Rattle.arena_list.proofs.Few.{at_map, at_mapped}
 use Rattle.arena_list.proofs.Opening.{entry_for, filter_tells, differ_tail, differ_cons}
 use Rattle.arena_list.proofs.Searches.{entry_first}
 use Rattle.arena_list.proofs.Filling.{all_once}
+use Rattle.arena_list.specs.Marks.{marks, marked_founding}
 use Rattle.arena_list.proofs.SeatFacts.{seen_own}
 use Rattle.arena_list.specs.Made.{AreSeats, AreFirst, view_with, given, claimed_view}
 
@@ -56,7 +57,7 @@ entry_there : {V : Type 0} (m : Meter V) (life : ℕ) (linked spare : List (Entr
 entry_there m life linked spare callers fit i e at = entry_first (linked ++ spare) e.caller i e
     (λ k x low there. λ same. let one = all_once m life linked spare callers fit k i x e there at same in omega arith) at refl
 
-module _ {V : Type 0} {g : Ghosts V} (m : Meter V) (list : ArenaList V) (fit : AreFit m list.table.shared.key.life list.table.shared.key.linked.items list.table.shared.key.spare.items list.table.shared.key.callers.items) (callers : List ℕ) (done : List (Entry V)) (seats : List (ListSeat V g)) where
+module _ {V : Type 0} (cd : Coded V) (m : Meter V) (list : ArenaList V) (fit : AreFit m list.table.shared.key.life list.table.shared.key.linked.items list.table.shared.key.spare.items list.table.shared.key.callers.items) (callers : List ℕ) (done : List (Entry V)) (seats : List ListSeat) where
   abbrev key : Founding V
   key = list.table.shared.key
 
@@ -66,10 +67,10 @@ module _ {V : Type 0} {g : Ghosts V} (m : Meter V) (list : ArenaList V) (fit : A
       (λ t. (t.1, ap (entry_of (key.linked.items ++ key.spare.items)) (sym t.3) ∙ entry_there m key.life key.linked.items key.spare.items key.callers.items fit (length key.linked.items + t.0) t.1 (at_behind key.linked.items key.spare.items t.0 t.1 t.2)))
       (entry_for m key fit i who at)
 
-  pub are_first : key.callers.items ≡ callers → done ≡ key.linked.items ++ key.spare.items → AreSeats m key list.table.shared.table_id key.callers.items done seats → AreFirst m list callers seats
+  pub are_first : key.callers.items ≡ callers → done ≡ key.linked.items ++ key.spare.items → AreSeats cd m key list.table.shared.table_id key.callers.items done seats → AreFirst cd m list callers seats
   are_first p q o = record {
     count = o.count ∙ ap length p;
     each = λ i who s a b. let at = ap (λ (l : List ℕ). get_elem? l i) p ∙ a in let t = o.each i who s at b in let e = own_entry i who at in
-        (t.0, (e.0, e.1, t.1 ∙ ap (λ (l : List (Entry V)). view_with m key l who) q ∙ ap (given m (claimed_view key who)) e.1));
-    own = λ i s at. seen_own _ s.seated;
+        (t.0, (e.0, e.1, t.1 ∙ ap (λ (l : List (Entry V)). view_with cd m key l who) q ∙ ap (given cd m (claimed_view (marked_founding cd m key) who)) e.1));
+    own = λ i s at. seen_own marks s.seated;
   }

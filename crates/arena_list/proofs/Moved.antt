@@ -40,8 +40,8 @@ pub record Moves {V : Type 0} (c : Core) (holder : ℕ → maybe.Option ℕ) (wo
 module _ {V : Type 0} (m : Meter V) (life : ℕ) where
   hold_moves : (c c' : Core) (hs hs' : Homes V) (g : Hand V) (x : Hold V) → c'.standing g.slot ≡ c.standing g.slot → get_elem? hs' g.slot ≡ get_elem? hs g.slot → HoldsAt m life c hs g x → HoldsAt m life c' hs' g x
   hold_moves c c' hs hs' g Vacant s t x = (s ∙ x.0, t ∙ x.1)
-  hold_moves c c' hs hs' g Filling s t x = s ∙ x
-  hold_moves c c' hs hs' g (Away used) s t x = (s ∙ x.0, x.1)
+  hold_moves c c' hs hs' g (Filling used) s t x = s ∙ x
+  hold_moves c c' hs hs' g (Away used) s t x = (s ∙ x.0, t ∙ x.1, x.2)
   hold_moves c c' hs hs' g (Rests part) s t x = (s ∙ x.0, t ∙ x.1, x.2)
 
   module _ (c : Core) (holder : ℕ → maybe.Option ℕ) (place : ℕ → maybe.Option (ℕ × ℕ)) (words : List ℕ) (homes : Homes V) (h : Hand V) (c' : Core) (words' : List ℕ) (homes' : Homes V) (step : Moves c holder words homes h c' words' homes') where

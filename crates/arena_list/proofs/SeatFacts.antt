@@ -11,20 +11,20 @@ use Rattle.arena_list.specs.declared.founding.Founding.{Founding}
 use Rattle.arena_list.specs.Nodes.{node_word}
 use Rattle.arena_list.specs.Words.{node_at, state_at}
 use Rattle.arena_list.specs.Rule.{Holds}
-use Rattle.arena_list.specs.Steps.{stored_node, took, claimed, gave, carried_of, IsOut, saw_size, sized}
+use Rattle.arena_list.specs.Steps.{stored_node, took, emptied, claimed, gave, IsOut, saw_size, sized}
 use Rattle.arena_list.specs.Founded.{Fits}
-use Rattle.arena_list.proofs.States.{takes_slot, claims, gives_slot, sizes_up}
+use Rattle.arena_list.proofs.States.{takes_slot, claims, empties, gives_slot, sizes_up}
 use Rattle.arena_list.proofs.Keeps.{notes}
 use Rattle.arena_list.proofs.Linking.{links}
 use Rattle.arena_list.specs.declared.view.Node.{Node}
 use Rattle.arena_list.specs.declared.view.Hold.{Hold}
-use Rattle.arena_list.specs.declared.view.Hold.TheVariants.{Vacant, Filling, Away, Rests}
+use Rattle.arena_list.specs.declared.view.Hold.TheVariants.{Filling, Away, Rests}
 use Rattle.arena_list.specs.declared.view.Hand.{Hand}
 use Rattle.arena_list.specs.declared.view.View.{View}
 use Rattle.arena_list.specs.Nodes.{node, before, head_of, Begins, HasNode, LacksNode}
 use Rattle.arena_list.specs.Views.{hand, first_hand, mine, when, HasSeenOwn}
 use Rattle.arena_list.specs.Founded.{Meter}
-use Rattle.arena_list.specs.Steps.{Sat, Sees, IsSeated, looked, counted, joined, held, settled, noted, next_link, own_node, used_now, carried, saw_head, tried_link}
+use Rattle.arena_list.specs.Steps.{Sat, Sees, IsSeated, looked, counted, joined, held, settled, noted, next_link, own_node, used_now, saw_head, tried_link}
 use Rattle.arena_list.proofs.Links.{before_small, head_more, has_node}
 
 -- what a list doesn't have, none has that begins it
@@ -32,12 +32,6 @@ none_before : {xs ys : List Node} {slot who : ℕ} → Begins xs ys → LacksNod
 none_before {slot = slot} {who = who} begins none_there = λ k e. none_there k (begins.same k (node slot who) e)
 
 module _ {V : Type 0} where
-  out_carries : (s : ℕ) (x : Hold V) → IsOut x → carried_of s x ≡ (s, None) ∷ []
-  out_carries s Vacant out = absurd out
-  out_carries s Filling out = refl
-  out_carries s (Away used) out = refl
-  out_carries s (Rests part) out = absurd out
-
   pub mine_tells : (v : View V) (s : ℕ) → mine v ≡ Some s → ((hand v).linked ≡ true) × ((hand v).slot ≡ s)
   mine_tells v s e = told (hand v).linked (hand v).slot s e where
     told : (b : Bool) (t s : ℕ) → when b t ≡ Some s → (b ≡ true) × (t ≡ s)
@@ -50,20 +44,32 @@ module _ {V : Type 0} where
     told true t e = absurd (none-some t (sym e))
     told false t e = refl
 
-  -- a seat that took a value carries it
-  pub took_value : (m : Meter V) (part : V) (slot : ℕ) (me me' : Sat V) → me' ≡ (held me.0 (Away (m.used part)), ((hand me.0).slot, Some part) ∷ me.1) → (hand me.0).slot ≡ slot
-      → (old : Option V) × (me'.1 ≡ (slot, old) ∷ rest_of_slots me'.1)
-  took_value m part slot me me' is at = let e = ap (λ (x : Sat V). x.1) is in (Some part, e ∙ (λ i. (at i, Some part) ∷ rest_of_slots (sym e i)))
+  first_of : Option V → List (ℕ × Option V) → Option V
+  first_of d [] = d
+  first_of d (x ∷ xs) = x.1
 
-  -- the emptied slot was filled, and given
-  pub filled : (slot : ℕ) (part : V) (me me' : Sat V) → me.1 ≡ (slot, None) ∷ [] → me' ≡ (me.0, (slot, Some part) ∷ rest_of_slots me.1) → me' ≡ (me.0, (slot, Some part) ∷ [])
-  filled slot part me me' empty is = is ∙ (λ i. (me.0, (slot, Some part) ∷ rest_of_slots (empty i)))
+  -- the slot that a seat holds
+  pub front : (l : List (ℕ × Option V)) (slot : ℕ) (x : Option V) → l ≡ (slot, x) ∷ [] → (old : Option V) × (l ≡ (slot, old) ∷ rest_of_slots l)
+  front l slot x e = (x, e ∙ ap (λ (r : List (ℕ × Option V)). (slot, x) ∷ rest_of_slots r) (sym e))
 
-  pub gave_after : (m : Meter V) (st : Step (Option V)) (r slot : ℕ) (part : V) (me me' me'' : Sat V) → me' ≡ (me.0, (slot, Some part) ∷ []) → slot ≡ (hand me.0).slot → gave m st me' r me'' → me'' ≡ (settled m me.0 part, [])
+  -- what is found there is what it holds
+  pub same_value : (l : List (ℕ × Option V)) (slot : ℕ) (y : Option V) (part other : V) → l ≡ (slot, Some part) ∷ [] → l ≡ (slot, y) ∷ rest_of_slots l → y ≡ Some other → part ≡ other
+  unfolding first_of
+  same_value l slot y part other a b is = let found : Some part ≡ y = ap (first_of None) (sym a ∙ b) in cc
+
+  pub took_out : (m : Meter V) (part : V) (slot : ℕ) (me me' : Sat V) → me' ≡ (held me.0 (Filling (m.used part)), ((hand me.0).slot, Some part) ∷ me.1) → (hand me.0).slot ≡ slot → me.1 ≡ []
+      → me' ≡ (held me.0 (Filling (m.used part)), (slot, Some part) ∷ [])
+  took_out m part slot me me' is at free = is ∙ (λ i. (held me.0 (Filling (m.used part)), (at i, Some part) ∷ free i))
+
+  -- the view while the seat holds its slot
+  abbrev pub filling : Meter V → Sat V → View V
+  filling m me = held me.0 (Filling (used_now m (hand me.0).hold))
+
+  pub gave_after : (m : Meter V) (st : Step (Option V)) (r slot : ℕ) (part : V) (me me' me'' : Sat V) → me' ≡ (filling m me, (slot, Some part) ∷ []) → slot ≡ (hand me.0).slot → gave m st me' r me'' → me'' ≡ (settled m me.0 part, [])
   gave_after m st r slot part me me' me'' is at told = (told part [] (ap (λ (x : Sat V). x.1) is ∙ (λ i. (at i, Some part) ∷ []) ∙ ap (λ (x : Sat V). ((hand x.0).slot, Some part) ∷ []) (sym is))).0 ∙ ap (λ (x : Sat V). (settled m x.0 part, [])) is
 
   -- what was seen of the slot before is at most the value's used sum
-  pub gave_more : (m : Meter V) (st : Step (Option V)) (r slot : ℕ) (part : V) (me me' me'' : Sat V) → me' ≡ (me.0, (slot, Some part) ∷ []) → slot ≡ (hand me.0).slot → gave m st me' r me'' → slice_index me.0.sizes (hand me.0).slot ≤ m.used part
+  pub gave_more : (m : Meter V) (st : Step (Option V)) (r slot : ℕ) (part : V) (me me' me'' : Sat V) → me' ≡ (filling m me, (slot, Some part) ∷ []) → slot ≡ (hand me.0).slot → gave m st me' r me'' → slice_index me.0.sizes (hand me.0).slot ≤ m.used part
   gave_more m st r slot part me me' me'' is at told = let t = (told part [] (ap (λ (x : Sat V). x.1) is ∙ (λ i. (at i, Some part) ∷ []) ∙ ap (λ (x : Sat V). ((hand x.0).slot, Some part) ∷ []) (sym is))).1 in
       let e = ap (λ (x : Sat V). slice_index x.0.sizes (hand x.0).slot) is in omega arith
 
@@ -89,7 +95,7 @@ module _ {V : Type 0} (m : Meter V) {caller slot used head : ℕ} {linked : Bool
     own = own;
     few = few;
     fewer = fewer;
-    carries = carries ∙ o.carries ∙ ap carried (sym h);
+    free = carries ∙ o.free;
   }
 
   -- after a look
@@ -140,7 +146,7 @@ module _ {V : Type 0} (m : Meter V) {caller slot used head : ℕ} {linked : Bool
         own = λ e. subst (λ (p : ℕ × ℕ). ¬ LacksNode me'.0.seen p.0 p.1) (λ i. ((sym slot_is) i, (sym caller_is) i)) (λ none. let has = sees.linked (sym linked_is) in none has.0 has.1);
         few = sees.few;
         fewer = λ e. absurd (false≢true (sym e));
-        carries = ap (λ (x : Sat V). x.1) after ∙ o.carries ∙ ap (λ (x : Sat V). carried (hand x.0)) at;
+        free = ap (λ (x : Sat V). x.1) after ∙ o.free;
       }
 
   -- after one that showed a longer list
@@ -159,11 +165,11 @@ module _ {V : Type 0} (m : Meter V) {caller slot used head : ℕ} {linked : Bool
         own = λ e none. o.own e (subst (λ (l : List Node). LacksNode l slot caller) (ap (λ (x : Sat V). x.0.seen) after) (none_before told.2 none));
         few = s.few;
         fewer = λ e. s.fewer (ap (λ (x : Sat V). (hand x.0).linked) after ∙ sym o.linked_is ∙ e);
-        carries = ap (λ (x : Sat V). x.1) at ∙ o.carries ∙ ap carried (sym h);
+        free = ap (λ (x : Sat V). x.1) at ∙ o.free;
       }
 
   -- a step that changes where the value of the own slot is
-  pub seated_hold : (x : Hold V) (used' : ℕ) (me' : Sat V) → me'.0.hands ≡ record (hand me.0) { hold = x } ∷ [] → me'.0.seen ≡ me.0.seen → me'.1 ≡ carried_of (hand me.0).slot x → used' ≡ used_now m x → used' < 2 ^ 63
+  pub seated_hold : (x : Hold V) (used' : ℕ) (me' : Sat V) → me'.0.hands ≡ record (hand me.0) { hold = x } ∷ [] → me'.0.seen ≡ me.0.seen → me'.1 ≡ [] → used' ≡ used_now m x → used' < 2 ^ 63
       → IsSeated m caller slot linked used head me → IsSeated m caller slot linked used' head me'
   seated_hold x used' me' hands seen carries is small o = let h : hand me'.0 ≡ record (hand me.0) { hold = x } = ap first_hand hands in record {
     one = ap length hands;
@@ -178,20 +184,8 @@ module _ {V : Type 0} (m : Meter V) {caller slot used head : ℕ} {linked : Bool
     own = λ e. subst (λ (l : List Node). ¬ LacksNode l slot caller) (sym seen) (o.own e);
     few = subst (λ (l : List Node). length l ≤ 64) (sym seen) o.few;
     fewer = λ e. subst (λ (l : List Node). length l < 64) (sym seen) (o.fewer e);
-    carries = carries ∙ ap carried (sym h);
+    free = carries;
   }
-
-  -- after the load that takes a slot which isn't filled yet
-  pub seated_claimed : (me' : Sat V) → IsSeated m caller slot linked used head me → (hand me.0).hold ≡ Vacant → me' ≡ (held me.0 Filling, ((hand me.0).slot, None) ∷ me.1) → IsSeated m caller slot linked used head me'
-  seated_claimed me' o there is = seated_hold Filling used me' (ap (λ (x : Sat V). x.0.hands) is) (ap (λ (x : Sat V). x.0.seen) is)
-      (ap (λ (x : Sat V). x.1) is ∙ ap (λ (l : List (ℕ × Option V)). ((hand me.0).slot, None) ∷ l) (o.carries ∙ ap (carried_of (hand me.0).slot) there)) (o.used_is ∙ ap (used_now m) there) o.used_small o
-
-  -- after the exchange that takes the value, and the one that hands it out
-  pub seated_took : (part : V) (s : ℕ) (me1 me' : Sat V) → IsSeated m caller slot linked used head me → (hand me.0).hold ≡ Rests part → (hand me.0).slot ≡ s
-      → me1 ≡ (held me.0 (Away (m.used part)), ((hand me.0).slot, Some part) ∷ me.1) → me' ≡ (me1.0, (s, None) ∷ rest_of_slots me1.1) → IsSeated m caller slot linked used head me'
-  seated_took part s me1 me' o there at first last = let is : me' ≡ (held me.0 (Away (m.used part)), (s, None) ∷ me.1) = last ∙ ap (λ (x : Sat V). (x.0, (s, None) ∷ rest_of_slots x.1)) first in
-      seated_hold (Away (m.used part)) used me' (ap (λ (x : Sat V). x.0.hands) is) (ap (λ (x : Sat V). x.0.seen) is)
-      (ap (λ (x : Sat V). x.1) is ∙ (λ i. ((sym at) i, None) ∷ (o.carries ∙ ap (carried_of (hand me.0).slot) there) i)) (o.used_is ∙ ap (used_now m) there) o.used_small o
 
   -- the exchange that takes the value of the own slot
   pub take_step : (k : Founding V) (slots id word new : ℕ) (part : V) → IsSeated m caller slot linked used head me → linked ≡ true → (hand me.0).hold ≡ Rests part → word ≡ 80 + 8 * slot → new ≡ 2 * used
@@ -199,20 +193,29 @@ module _ {V : Type 0} (m : Meter V) {caller slot used head : ℕ} {linked : Bool
   take_step k slots id word new part o is_linked there at is = subst (λ (w : ℕ). Allows (Holds m k) slots id me w (λ _. new) (took m (step slots w new 0 none) me)) (sym (at ∙ ap state_at o.slot_is))
       (takes_slot m k slots id new me part o.one (sym o.linked_is ∙ is_linked) there (is ∙ ap (λ (u : ℕ). 2 * u) (o.used_is ∙ ap (used_now m) there)))
 
-  -- the load that takes a slot which isn't filled yet
-  pub claim_step : (k : Founding V) (slots id word : ℕ) → IsSeated m caller slot linked used head me → (hand me.0).hold ≡ Vacant → word ≡ 80 + 8 * slot
-      → Allows (Holds m k) slots id me word (λ n. n) (claimed (step slots word 0 0 none) me)
-  claim_step k slots id word o there at = subst (λ (w : ℕ). Allows (Holds m k) slots id me w (λ n. n) (claimed (step slots w 0 0 none) me)) (sym (at ∙ ap state_at o.slot_is)) (claims m k slots id me o.one there)
+  -- the load that takes an empty slot
+  pub claim_step : (k : Founding V) (slots id word : ℕ) → IsSeated m caller slot linked used head me → IsOut (hand me.0).hold → word ≡ 80 + 8 * slot
+      → Allows (Holds m k) slots id me word (λ n. n) (claimed m (step slots word 0 0 none) me)
+  claim_step k slots id word o out at = subst (λ (w : ℕ). Allows (Holds m k) slots id me w (λ n. n) (claimed m (step slots w 0 0 none) me)) (sym (at ∙ ap state_at o.slot_is)) (claims m k slots id me o.one out)
 
-  -- a seat whose slot is out carries the emptied slot
-  pub carries_none : IsSeated m caller slot linked used head me → IsOut (hand me.0).hold → me.1 ≡ (slot, None) ∷ []
-  carries_none o out = o.carries ∙ out_carries (hand me.0).slot (hand me.0).hold out ∙ ap (λ (s : ℕ). (s, None) ∷ []) (sym o.slot_is)
+  -- after it the seat holds the empty slot
+  pub claimed_none : (me' : Sat V) → IsSeated m caller slot linked used head me → me' ≡ (filling m me, ((hand me.0).slot, None) ∷ me.1) → me' ≡ (filling m me, (slot, None) ∷ [])
+  claimed_none me' o is = is ∙ (λ i. (filling m me, (sym o.slot_is i, None) ∷ o.free i))
+
+  -- the load that gives the emptied slot back
+  pub empty_step : (k : Founding V) (slots id word : ℕ) (me' : Sat V) → IsSeated m caller slot linked used head me → linked ≡ true → me' ≡ (held me.0 (Filling used), (slot, None) ∷ []) → word ≡ 80 + 8 * slot
+      → Allows (Holds m k) slots id me' word (λ n. n) (emptied (step slots word 0 0 none) me')
+  empty_step k slots id word me' o is_linked after at = subst (λ (z : ℕ × Sat V). Allows (Holds m k) slots id z.1 z.0 (λ n. n) (emptied (step slots z.0 0 0 none) z.1)) (λ i. (sym (at ∙ ap state_at o.slot_is) i, sym after i))
+      (empties m k slots id used (held me.0 (Filling used), (slot, None) ∷ []) [] refl (sym o.linked_is ∙ is_linked) refl (ap (λ (s : ℕ). (s, None) ∷ []) o.slot_is))
+
+  pub emptied_after : (st : Step (Option V)) (r : ℕ) (me' me'' : Sat V) → IsSeated m caller slot linked used head me → me' ≡ (held me.0 (Filling used), (slot, None) ∷ []) → emptied st me' r me'' → me'' ≡ (held me.0 (Away used), [])
+  emptied_after st r me' me'' o is told = told used [] (ap (λ (x : Sat V). (hand x.0).hold) is) (ap (λ (x : Sat V). x.1) is ∙ (λ i. (o.slot_is i, None) ∷ []) ∙ ap (λ (x : Sat V). ((hand x.0).slot, None) ∷ []) (sym is)) ∙ ap (λ (x : Sat V). (held x.0 (Away used), [])) is
 
   -- the store that gives the value
-  pub give_step : (k : Founding V) (slots id word new : ℕ) (me' : Sat V) (part : V) → IsSeated m caller slot linked used head me → me' ≡ (me.0, (slot, Some part) ∷ []) → used_now m (hand me.0).hold ≤ m.used part → Fits m k.life (hand me.0).who part
+  pub give_step : (k : Founding V) (slots id word new : ℕ) (me' : Sat V) (part : V) → IsSeated m caller slot linked used head me → me' ≡ (filling m me, (slot, Some part) ∷ []) → used_now m (hand me.0).hold ≤ m.used part → Fits m k.life (hand me.0).who part
       → word ≡ 80 + 8 * slot → new ≡ 2 * m.used part + 1 → Allows (Holds m k) slots id me' word (λ _. new) (λ _. gave m (step slots word new 0 none) me' new)
   give_step k slots id word new me' part o after more fits at is = subst (λ (z : ℕ × Sat V). Allows (Holds m k) slots id z.1 z.0 (λ _. new) (λ _. gave m (step slots z.0 new 0 none) z.1 new)) (λ i. (sym (at ∙ ap state_at o.slot_is) i, sym after i))
-      (gives_slot m k slots id new (me.0, (slot, Some part) ∷ []) part [] o.one (ap (λ (s : ℕ). (s, Some part) ∷ []) o.slot_is) more fits is)
+      (gives_slot m k slots id new (filling m me, (slot, Some part) ∷ []) part [] refl (ap (λ (s : ℕ). (s, Some part) ∷ []) o.slot_is) more fits is)
 
   -- after a load of a state
   pub seated_sized : (i used' : ℕ) (me' : Sat V) → me' ≡ (sized me.0 i used', me.1) → IsSeated m caller slot linked used head me → IsSeated m caller slot linked used head me'

@@ -2,6 +2,7 @@
 use Rattle.std.proofs.Common.{◌≡◌, ℕ, ◌+◌, ◌*◌, ◌/◌, ◌<◌, ◌≤◌, ◌≢◌, Bool, true, false, eqb, List, ◌∷◌, length, get_or, set, sym, refl, ap, subst, cond, ◌∙◌, inl, arith, Option, Some, None, length-set, eq-eqb, ne_eqb}
 use Rattle.std.specs.Prelude.{slice_index}
 use Rattle.std.proofs.lemmas.List.{set-get_or, get_or-set_same, get_or-set_other}
+use mathlib.Core.Option as maybe
 use mathlib.Core.Option.{some, none}
 use mathlib.Core.Logic.{dite}
 use native.Mathlib.Decide.{ℕ_discrete}
@@ -21,7 +22,7 @@ use Rattle.arena_list.specs.Words.{Show, node_at, state_at, state_word, bit}
 use Rattle.arena_list.specs.Views.{hand}
 use Rattle.arena_list.specs.Founded.{Meter, Fits}
 use Rattle.arena_list.specs.Rule.{Holds, HoldsAt, IsHand, Knows}
-use Rattle.arena_list.specs.Steps.{Sat, held, settled, sized, used_now, took, claimed, gave, saw_size}
+use Rattle.arena_list.specs.Steps.{Sat, held, settled, sized, used_now, IsOut, took, emptied, claimed, gave, saw_size}
 use Rattle.arena_list.specs.Moments.{SeenSize}
 use Rattle.arena_list.proofs.Lists.{begins_itself}
 use Rattle.arena_list.proofs.Moved.{Homes, Moves, moved}
@@ -41,6 +42,9 @@ upd_else f k j a ne = ap (λ (b : Bool). cond b a (f j)) (ne_eqb j k ne)
 
 rests_one : {V : Type 0} (x y : V) → (◌≡◌ {A = Hold V} (Rests x) (Rests y)) → x ≡ y
 rests_one x y e = cc
+
+filling_one : {V : Type 0} (x y : ℕ) → (◌≡◌ {A = Hold V} (Filling x) (Filling y)) → x ≡ y
+filling_one x y e = cc
 
 module _ {V : Type 0} (m : Meter V) (k : Founding V) where
   abbrev St : Type 0
@@ -123,7 +127,7 @@ module _ {V : Type 0} (m : Meter V) (k : Founding V) where
     -- the used sum that the own slot shows
     shows_used : (hold : Hold V) → HoldsAt m k.life r.core s.homes h hold → (r.core.standing h.slot).used ≡ used_now m hold
     shows_used Vacant x = ap (λ (y : Standing). y.used) x.0
-    shows_used Filling x = ap (λ (y : Standing). y.used) x
+    shows_used (Filling used) x = ap (λ (y : Standing). y.used) x
     shows_used (Away used) x = ap (λ (y : Standing). y.used) x.0
     shows_used (Rests part) x = ap (λ (y : Standing). y.used) x.0
 
@@ -131,41 +135,67 @@ module _ {V : Type 0} (m : Meter V) (k : Founding V) where
       → Allows (Holds m k) slots id me (state_at (hand me.0).slot) (λ _. new) (took m (step slots (state_at (hand me.0).slot) new 0 none) me)
   unfolding after
   takes_slot slots id new me part alone linked rests_there is s r _ at _ = let v = me.0 in let h = hand v in let o = own s r id v at alone in let hold = subst (λ (x : Hold V). HoldsAt m k.life r.core s.homes h x) rests_there o.hold in
-      let x = away (m.used part) in let w = held v (Away (m.used part)) in let hs = set s.homes h.slot none in let knows = r.known id v at in
+      let x = away (m.used part) in let w = held v (Filling (m.used part)) in let hs = set s.homes h.slot none in let knows = r.known id v at in
       let more : (r.core.standing h.slot).used ≤ m.used part = (let e = ap (λ (y : Standing). y.used) hold.0 in omega arith) in (
         w,
         takes h.slot (Some part),
         hold.1,
-        moved m k s r id v w h (record h { hold = Away (m.used part) }) at (hands_are v.hands alone) refl refl refl refl (after s r id v at alone x) (set s.words (state_at h.slot) new) hs
+        moved m k s r id v w h (record h { hold = Filling (m.used part) }) at (hands_are v.hands alone) refl refl refl refl (after s r id v at alone x) (set s.words (state_at h.slot) new) hs
             (restated s r id v at alone x new hs (is ∙ (let z : 2 * m.used part ≡ 2 * m.used part + 0 = omega arith in z)) more (length-set s.homes h.slot none ∙ r.slots) (λ slot ne. set_else s.homes h.slot slot none ne))
-            (rehold s r id v at alone x new hs (Away (m.used part)) (standing_after s r id v at alone x, linked))
+            (rehold s r id v at alone x new hs (Filling (m.used part)) (standing_after s r id v at alone x))
             (knows_after s r id v at alone x w more refl refl knows.room (λ slot ne. refl) (let a = knows.sizes h.slot in omega arith)),
-        λ other there. let same : part ≡ other = rests_one part other (sym rests_there ∙ there) in ap (λ (p : V). (held v (Away (m.used p)), (h.slot, Some p) ∷ me.1)) same,
+        λ other there. let same : part ≡ other = rests_one part other (sym rests_there ∙ there) in ap (λ (p : V). (held v (Filling (m.used p)), (h.slot, Some p) ∷ me.1)) same,
       )
 
-  pub claims : (slots id : ℕ) (me : Sat V) → length me.0.hands ≡ 1 → (hand me.0).hold ≡ Vacant
-      → Allows (Holds m k) slots id me (state_at (hand me.0).slot) (λ n. n) (claimed (step slots (state_at (hand me.0).slot) 0 0 none) me)
-  claims slots id me alone vacant s r _ at _ = let v = me.0 in let h = hand v in let o = own s r id v at alone in let hold = subst (λ (x : Hold V). HoldsAt m k.life r.core s.homes h x) vacant o.hold in
-      let w = held v Filling in let hs = set s.homes h.slot none in let knows = r.known id v at in (
-        w,
-        takes h.slot None,
-        hold.1,
+  -- an empty slot at home
+  empty_at : (c : Core) (hs : Homes V) (h : Hand V) (x : Hold V) → IsOut x → HoldsAt m k.life c hs h x → (c.standing h.slot ≡ away (used_now m x)) × (get_elem? hs h.slot ≡ some (some None))
+  empty_at c hs h Vacant out x = x
+  empty_at c hs h (Filling used) out x = absurd out
+  empty_at c hs h (Away used) out x = (x.0, x.1)
+  empty_at c hs h (Rests part) out x = absurd out
+
+  -- a step that changes no word, and the own slot alone
+  module _ (s : St) (r : Holds m k s) (id : ℕ) (v : View V) (at : get_elem? s.views id ≡ some v) (alone : length v.hands ≡ 1) where
+    reheld : (x : Hold V) (h' : maybe.Option (Option V)) → HoldsAt m k.life r.core (set s.homes (hand v).slot h') (record (hand v) { hold = x }) x
+        → Holds m k record { words = set s.words (state_at (hand v).slot) (get_or s.words (state_at (hand v).slot) 0); homes = set s.homes (hand v).slot h'; views = set s.views id (held v x) }
+    reheld x h' is = let h = hand v in let o = own s r id v at alone in let w = held v x in let hs = set s.homes h.slot h' in let knows = r.known id v at in
         subst (λ (ws : List ℕ). Holds m k record { words = ws; homes = hs; views = set s.views id w }) (sym (set-get_or s.words (state_at h.slot) 0))
-            (moved m k s r id v w h (record h { hold = Filling }) at (hands_are v.hands alone) refl refl refl refl r.core s.words hs
-            record {
-              grows = begins_itself r.core.joined;
-              adds = λ i n e. inl e;
-              callers = r.callers;
-              standing = λ slot ne. refl;
-              used = omega arith;
-              nodes = λ slot small ne. refl;
-              homes_same = λ slot ne. set_else s.homes h.slot slot none ne;
-              show = r.show;
-              slots = length-set s.homes h.slot none ∙ r.slots;
-            }
-            record { here = o.here; slot = o.slot; held = o.held; linked = o.linked; spare = o.spare; noted = o.noted; hold = hold.0 }
-            record { seen = knows.seen; room = knows.room; pasts = knows.pasts; sizes = knows.sizes }),
-        refl,
+        (moved m k s r id v w h (record h { hold = x }) at (hands_are v.hands alone) refl refl refl refl r.core s.words hs
+        record {
+          grows = begins_itself r.core.joined;
+          adds = λ i n e. inl e;
+          callers = r.callers;
+          standing = λ slot ne. refl;
+          used = omega arith;
+          nodes = λ slot small ne. refl;
+          homes_same = λ slot ne. set_else s.homes h.slot slot h' ne;
+          show = r.show;
+          slots = length-set s.homes h.slot h' ∙ r.slots;
+        }
+        record { here = o.here; slot = o.slot; held = o.held; linked = o.linked; spare = o.spare; noted = o.noted; hold = is }
+        record { seen = knows.seen; room = knows.room; pasts = knows.pasts; sizes = knows.sizes })
+
+  pub claims : (slots id : ℕ) (me : Sat V) → length me.0.hands ≡ 1 → IsOut (hand me.0).hold
+      → Allows (Holds m k) slots id me (state_at (hand me.0).slot) (λ n. n) (claimed m (step slots (state_at (hand me.0).slot) 0 0 none) me)
+  claims slots id me alone out s r _ at _ = let v = me.0 in let h = hand v in let o = own s r id v at alone in let hold = empty_at r.core s.homes h h.hold out o.hold in (
+    held v (Filling (used_now m h.hold)),
+    takes h.slot None,
+    hold.1,
+    reheld s r id v at alone (Filling (used_now m h.hold)) none hold.0,
+    refl,
+  )
+
+  pub empties : (slots id used : ℕ) (me : Sat V) (out : List (ℕ × Option V)) → length me.0.hands ≡ 1 → (hand me.0).linked ≡ true → (hand me.0).hold ≡ Filling used → me.1 ≡ ((hand me.0).slot, None) ∷ out
+      → Allows (Holds m k) slots id me (state_at (hand me.0).slot) (λ n. n) (emptied (step slots (state_at (hand me.0).slot) 0 0 none) me)
+  empties slots id used me out alone linked filling has s r _ at _ = let v = me.0 in let h = hand v in let o = own s r id v at alone in let hold = subst (λ (x : Hold V). HoldsAt m k.life r.core s.homes h x) filling o.hold in
+      let within : h.slot < length s.homes = (let a = r.slots in let b = o.slot in omega arith) in (
+        held v (Away used),
+        gives,
+        tt,
+        subst (λ (c : List (ℕ × Option V)). Holds m k (stepped s (state_at h.slot) (get_or s.words (state_at h.slot) 0) id c (held v (Away used)) gives)) (sym has)
+            (reheld s r id v at alone (Away used) (some None) (hold, set_here s.homes h.slot (some None) within, linked)),
+        λ other rest is there. let same : ((h.slot, None) ∷ out) ≡ ((h.slot, None) ∷ rest) = sym has ∙ there in let q : out ≡ rest = cc in let p : used ≡ other = filling_one used other (sym filling ∙ is) in
+            subst (λ (c : List (ℕ × Option V)). ◌≡◌ {A = Sat V} (held v (Away used), rest_of_slots c) (held v (Away other), rest)) (sym has) (λ i. (held v (Away (p i)), q i)),
       )
 
   pub gives_slot : (slots id new : ℕ) (me : Sat V) (part : V) (out : List (ℕ × Option V)) → length me.0.hands ≡ 1 → me.1 ≡ ((hand me.0).slot, Some part) ∷ out → used_now m (hand me.0).hold ≤ m.used part

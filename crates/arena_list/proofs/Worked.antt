@@ -5,16 +5,18 @@ use Rattle.std.proofs.lemmas.List.{length-append, length-map}
 use Rattle.std.specs.Prelude.{All}
 use mathlib.Core.Option.{some, some-ne-none}
 use lib.ListN.{get_elem?}
-use Rattle.arena_mem.specs.declared.part.Part.{Ghosts}
+use base.Stored.{Coded}
 use Rattle.arena_list.specs.declared.entry.Entry.{Entry}
 use Rattle.arena_list.specs.declared.founding.Founding.{Founding}
 use Rattle.arena_list.specs.declared.list.ListSeat.{ListSeat}
 use Rattle.arena_list.specs.declared.list.ArenaList.{ArenaList}
+use Rattle.arena_list.specs.declared.mark.Mark.{Mark}
 use Rattle.arena_list.specs.declared.view.Hand.{Hand}
 use Rattle.arena_list.specs.Founded.{Meter, Differ, AreFit, Fits, has, slot, caller}
 use Rattle.arena_list.specs.Made.{IsMadeOf, AreFirst}
-use Rattle.arena_list.specs.declared.view.View.{View}
 use Rattle.arena_list.specs.Views.{first_hand, who, out, HasSeenOwn}
+use Rattle.arena_list.specs.Marks.{marks, mark, marked_founding}
+use Rattle.arena_list.specs.declared.view.View.{View}
 use Rattle.arena_list.specs.Seats.{view, SameList, IsHome}
 use Rattle.arena_list.specs.Closed.{AreAll}
 use Rattle.arena_list.proofs.Few.{or_at, at_mapped}
@@ -22,6 +24,7 @@ use Rattle.arena_list.proofs.Lists.{at_below, at_there, at_end, same_elements, a
 use Rattle.arena_list.proofs.Seats.{at_append}
 use Rattle.arena_list.proofs.Opening.{has_at, entry_at}
 use Rattle.arena_list.proofs.Dealing.{hand_who}
+use Rattle.arena_list.proofs.Marked.{fits_marked, fit_marked}
 use Rattle.arena_list.proofs.Making.{fit_as}
 use Rattle.arena_list.proofs.SeatFacts.{seen_own}
 
@@ -97,10 +100,10 @@ module _ {V : Type 0} (m : Meter V) (linked spare : List (Entry V)) (callers : L
   }
 
 -- each seat has seen its own node
-own_of : {V : Type 0} {g : Ghosts V} (s : ListSeat V g) → HasSeenOwn (view s)
-own_of s = seen_own _ s.seated
+own_of : (s : ListSeat) → HasSeenOwn (view s)
+own_of s = seen_own marks s.seated
 
-module _ {V : Type 0} {g : Ghosts V} (m : Meter V) (life : ℕ) (linked spare : List (Entry V)) (callers : List ℕ) (list : ArenaList V) (seats : List (ListSeat V g)) (fit : AreFit m life linked spare callers) (made : IsMadeOf life linked spare callers list) (first : AreFirst m list callers seats) where
+module _ {V : Type 0} (cd : Coded V) (m : Meter V) (life : ℕ) (linked spare : List (Entry V)) (callers : List ℕ) (list : ArenaList V) (seats : List ListSeat) (fit : AreFit m life linked spare callers) (made : IsMadeOf life linked spare callers list) (first : AreFirst cd m list callers seats) where
   abbrev key : Founding V
   key = list.table.shared.key
 
@@ -108,29 +111,29 @@ module _ {V : Type 0} {g : Ghosts V} (m : Meter V) (life : ℕ) (linked spare : 
   key_fit = fit_as m key.life linked key.linked.items spare key.spare.items callers key.callers.items made.linked_are made.spare_are made.callers_are
       (subst (λ (l : ℕ). AreFit m l linked spare callers) (sym made.life_is) fit)
 
-  is_home : (i c : ℕ) (s : ListSeat V g) → get_elem? callers i ≡ some c → get_elem? seats i ≡ some s → IsHome m list s
+  is_home : (i c : ℕ) (s : ListSeat) → get_elem? callers i ≡ some c → get_elem? seats i ≡ some s → IsHome cd m list s
   is_home i c s a b = let r = first.each i c s a b in let e = r.1.0 in let p = entry_at (key.linked.items ++ key.spare.items) c e r.1.1 in
-      let whose : who (view s) ≡ c = ap who r.1.2 ∙ hand_who m key key_fit i c (ap (λ (l : List ℕ). get_elem? l i) made.callers_are ∙ a) in
-      (r.0, (e.part, ap out r.1.2, subst (λ (w : ℕ). Fits m key.life w e.part) (p.2 ∙ sym whose) (key_fit.parts p.0 e p.1)), ap (λ (v : View V). v.base) r.1.2, own_of s)
+      let whose : who (view s) ≡ c = ap who r.1.2 ∙ hand_who marks (marked_founding cd m key) (fit_marked cd m key.life key.linked.items key.spare.items key.callers.items key_fit) i c (ap (λ (l : List ℕ). get_elem? l i) made.callers_are ∙ a) in
+      (r.0, (mark cd m e.part, ap out r.1.2, subst (λ (w : ℕ). Fits marks key.life w (mark cd m e.part)) (p.2 ∙ sym whose) (fits_marked cd m key.life e.caller e.part (key_fit.parts p.0 e p.1))), ap (λ (v : View Mark). v.base) r.1.2, own_of s)
 
   -- each seat that `make` gives has its value at home
-  pub all_home : All (IsHome m list) seats
+  pub all_home : All (IsHome cd m list) seats
   all_home k d low = let s = at_there seats k low in let c = at_there callers k (let n = first.count in omega arith) in
-      subst (IsHome m list) (sym (or_at seats k d s.0 s.1)) (is_home k c.0 s.0 c.1 s.1)
+      subst (IsHome cd m list) (sym (or_at seats k d s.0 s.1)) (is_home k c.0 s.0 c.1 s.1)
 
-module _ {V : Type 0} {g : Ghosts V} (m : Meter V) (list : ArenaList V) (s t : ListSeat V g) (same : SameList s t) (is : (view t).hands ≡ (view s).hands) (based : (view t).base ≡ (view s).base) where
+module _ {V : Type 0} (cd : Coded V) (m : Meter V) (list : ArenaList V) (s t : ListSeat) (same : SameList s t) (is : (view t).hands ≡ (view s).hands) (based : (view t).base ≡ (view s).base) where
   -- a call that leaves the hands
-  pub home_kept : IsHome m list s → IsHome m list t
-  home_kept o = (same ∙ o.0, (o.1.0, ap (λ (h : List (Hand V)). (first_hand h).hold) is ∙ o.1.1, subst (λ (w : ℕ). Fits m list.table.shared.key.life w o.1.0) (ap (λ (h : List (Hand V)). (first_hand h).who) (sym is)) o.1.2), based ∙ o.2, own_of t)
+  pub home_kept : IsHome cd m list s → IsHome cd m list t
+  home_kept o = (same ∙ o.0, (o.1.0, ap (λ (h : List (Hand Mark)). (first_hand h).hold) is ∙ o.1.1, subst (λ (w : ℕ). Fits marks list.table.shared.key.life w o.1.0) (ap (λ (h : List (Hand Mark)). (first_hand h).who) (sym is)) o.1.2), based ∙ o.2, own_of t)
 
-module _ {V : Type 0} {g : Ghosts V} (m : Meter V) where
+module _ {V : Type 0} (cd : Coded V) (m : Meter V) where
   -- what `close` asks
-  pub all_back : (list : ArenaList V) (seats : List (ListSeat V g)) → length seats ≡ length list.table.shared.key.callers.items → All (IsHome m list) seats → AreAll list seats
+  pub all_back : (list : ArenaList V) (seats : List ListSeat) → length seats ≡ length list.table.shared.key.callers.items → All (IsHome cd m list) seats → AreAll list seats
   all_back list seats count home = record {
     count = count;
-    each = λ k s at. let h : IsHome m list s = subst (IsHome m list) (or_at seats k s s at) (home k s (at_below seats k s at)) in (h.0, (h.1.0, h.1.1));
+    each = λ k s at. let h : IsHome cd m list s = subst (IsHome cd m list) (or_at seats k s s at) (home k s (at_below seats k s at)) in (h.0, (h.1.0, h.1.1));
   }
 
   -- the same of what a refusal hands back
-  pub home_as : (list list' : ArenaList V) (seats seats' : List (ListSeat V g)) → list' ≡ list → seats' ≡ seats → All (IsHome m list) seats → All (IsHome m list') seats'
-  home_as list list' seats seats' p q home = subst (λ (z : ArenaList V × List (ListSeat V g)). All (IsHome m z.0) z.1) (λ i. (sym p i, sym q i)) home
+  pub home_as : (list list' : ArenaList V) (seats seats' : List ListSeat) → list' ≡ list → seats' ≡ seats → All (IsHome cd m list) seats → All (IsHome cd m list') seats'
+  home_as list list' seats seats' p q home = subst (λ (z : ArenaList V × List ListSeat). All (IsHome cd m z.0) z.1) (λ i. (sym p i, sym q i)) home

@@ -2,7 +2,6 @@
 use Rattle.std.specs.Prelude.{◌≡◌, ◌⊎◌, ℕ, ◌+◌, ◌<◌, ◌≤◌, true, List, [], ◌∷◌, ◌++◌, length, map, slice_index, if◌then◌else◌}
 use mathlib.Core.Option.{some}
 use lib.ListN.{get_elem?}
-use Rattle.arena_mem.specs.declared.part.Part.{Ghosts}
 use Rattle.arena_list.specs.declared.entry.Entry.{Entry}
 use Rattle.arena_list.specs.declared.list.ArenaList.{ArenaList}
 use Rattle.arena_list.specs.declared.list.ListSeat.{ListSeat}
@@ -10,6 +9,7 @@ use Rattle.arena_list.specs.declared.view.Node.{Node}
 use Rattle.arena_list.specs.declared.view.Hold.{Hold}
 use Rattle.arena_list.specs.declared.view.Hold.TheVariants.{Vacant, Filling, Away, Rests}
 use Rattle.arena_list.specs.declared.view.Hand.{Hand}
+use Rattle.arena_list.specs.declared.mark.Mark.{Mark}
 use Rattle.arena_list.specs.declared.view.View.{View}
 use Rattle.arena_list.specs.Nodes.{Begins}
 use Rattle.arena_list.specs.Founded.{Meter, Fits, Differ, slot, caller, node_of}
@@ -32,13 +32,13 @@ module _ {V : Type 0} where
   IsAmong es e = (i : ℕ) × (get_elem? es i ≡ some e)
 
   -- the entry is the hand's: its slot, its caller, and the value that rests there
-  abbrev pub IsOwn : Hand V → Entry V → Type 0
-  IsOwn h e = (e.slot ≡ h.slot) × (e.caller ≡ h.who) × (h.hold ≡ Rests e.part)
+  abbrev pub IsOwn : (V → Mark) → Hand Mark → Entry V → Type 0
+  IsOwn mark h e = (e.slot ≡ h.slot) × (e.caller ≡ h.who) × (h.hold ≡ Rests (mark e.part))
 
   -- the value, where it rests
   abbrev pub rested : Hold V → List V
   rested Vacant = []
-  rested Filling = []
+  rested (Filling used) = []
   rested (Away used) = []
   rested (Rests part) = part ∷ []
 
@@ -62,35 +62,35 @@ module _ {V : Type 0} where
     pub small : (i : ℕ) (e : Entry V) → get_elem? es i ≡ some e → e.slot < 64
     pub parts : (i : ℕ) (e : Entry V) → get_elem? es i ≡ some e → Fits m life e.caller e.part
 
-module _ {V : Type 0} {g : Ghosts V} where
-  abbrev pub hand_of : ListSeat V g → Hand V
-  hand_of s = hand (view s)
+abbrev pub hand_of : ListSeat → Hand Mark
+hand_of s = hand (view s)
 
-  -- the value of the seat's slot is in it
-  abbrev pub Rested : ListSeat V g → Type 0
-  Rested s = (part : V) × (out (view s) ≡ Rests part)
+-- the value of the seat's slot is in it
+abbrev pub Rested : ListSeat → Type 0
+Rested s = (part : Mark) × (out (view s) ≡ Rests part)
 
-  -- the slots of the seats that never joined the list, each with its caller, in the order of the seats
-  abbrev pub slots_of : List (ListSeat V g) → List (ℕ × ℕ)
-  slots_of [] = []
-  slots_of (s ∷ ss) = if s.linked then slots_of ss else ((s.slot, s.caller) ∷ slots_of ss)
+-- the slots of the seats that never joined the list, each with its caller, in the order of the seats
+abbrev pub slots_of : List ListSeat → List (ℕ × ℕ)
+slots_of [] = []
+slots_of (s ∷ ss) = if s.linked then slots_of ss else ((s.slot, s.caller) ∷ slots_of ss)
 
+module _ {V : Type 0} where
   -- these are all seats of the list, and each one's slot is home
-  pub record AreAll (list : ArenaList V) (seats : List (ListSeat V g)) : Type 0 where
+  pub record AreAll (list : ArenaList V) (seats : List ListSeat) : Type 0 where
     pub count : length seats ≡ length list.table.shared.key.callers.items
-    pub each : (k : ℕ) (s : ListSeat V g) → get_elem? seats k ≡ some s → IsSeatOf list s × Rested s
+    pub each : (k : ℕ) (s : ListSeat) → get_elem? seats k ≡ some s → IsSeatOf list s × Rested s
 
   -- the entry is that of a seat whose slot is in the list
-  abbrev pub IsJoined : List (ListSeat V g) → Entry V → Type 0
-  IsJoined seats e = (k : ℕ) × (s : ListSeat V g) × (get_elem? seats k ≡ some s) × ((hand_of s).linked ≡ true) × IsOwn (hand_of s) e
+  abbrev pub IsJoined : (V → Mark) → List ListSeat → Entry V → Type 0
+  IsJoined mark seats e = (k : ℕ) × (s : ListSeat) × (get_elem? seats k ≡ some s) × ((hand_of s).linked ≡ true) × IsOwn mark (hand_of s) e
 
-  -- these are the linked entries of a list that was closed with all its seats, oldest first
-  pub record AreLinked (list : ArenaList V) (seats : List (ListSeat V g)) (es : List (Entry V)) : Type 0 where
+  -- these are the linked entries, oldest first, of a list that was closed with all its seats. Those that it was made with begin them, and those apart are of callers without a seat
+  pub record AreLinked (mark : V → Mark) (apart begun : List (Entry V)) (seats : List ListSeat) (es : List (Entry V)) : Type 0 where
     -- each is that of a seat, or of a caller that has none
-    pub known : (e : Entry V) → IsAmong es e → IsJoined seats e ⊎ IsAmong list.others.items e
+    pub known : (e : Entry V) → IsAmong es e → IsJoined mark seats e ⊎ IsAmong apart e
     -- and none of these is missing
-    pub joined : (e : Entry V) → IsJoined seats e → IsAmong es e
-    pub others : (e : Entry V) → IsAmong list.others.items e → IsAmong es e
+    pub joined : (e : Entry V) → IsJoined mark seats e → IsAmong es e
+    pub others : (e : Entry V) → IsAmong apart e → IsAmong es e
     -- what a seat had seen begins the list, and so do the nodes that it was made with
-    pub seen : (k : ℕ) (s : ListSeat V g) → get_elem? seats k ≡ some s → Begins (view s).seen (map node_of es)
-    pub founded : Begins (map node_of list.table.shared.key.linked.items) (map node_of es)
+    pub seen : (k : ℕ) (s : ListSeat) → get_elem? seats k ≡ some s → Begins (view s).seen (map node_of es)
+    pub founded : Begins (map node_of begun) (map node_of es)

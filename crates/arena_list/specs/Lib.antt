@@ -4,6 +4,8 @@ pub mod Words
 pub mod Founded
 pub mod Core
 pub mod Rule
+pub mod Image
+pub mod Marks
 pub mod Moments
 pub mod Steps
 pub mod Calls

@@ -80,26 +80,16 @@ module _ {V : Type 0} where
   -- the used sum that the caller's own slot shows
   abbrev pub used_now : Meter V → Hold V → ℕ
   used_now m Vacant = 0
-  used_now m Filling = 0
+  used_now m (Filling used) = used
   used_now m (Away used) = used
   used_now m (Rests part) = m.used part
 
-  -- the slot is out with the seat
+  -- the value is out, and its slot is empty and at home
   abbrev pub IsOut : Hold V → Type 0
-  IsOut Vacant = ⊥
-  IsOut Filling = Unit {0}
+  IsOut Vacant = Unit {0}
+  IsOut (Filling used) = ⊥
   IsOut (Away used) = Unit {0}
   IsOut (Rests part) = ⊥
-
-  -- what a seat carries beside its view: where its slot is out, the emptied slot
-  abbrev pub carried_of : ℕ → Hold V → List (ℕ × Option V)
-  carried_of slot Vacant = []
-  carried_of slot Filling = (slot, None) ∷ []
-  carried_of slot (Away used) = (slot, None) ∷ []
-  carried_of slot (Rests part) = []
-
-  abbrev pub carried : Hand V → List (ℕ × Option V)
-  carried h = carried_of h.slot h.hold
 
   -- ---- what a step tells
   abbrev pub saw_head : Meter V → Step (Option V) → Sat V → ℕ → Sat V → Type 0
@@ -117,10 +107,14 @@ module _ {V : Type 0} where
       × (r ≢ st.first → saw_head m st me r me' × (length me.0.seen < length me'.0.seen))
 
   abbrev pub took : Meter V → Step (Option V) → Sat V → ℕ → Sat V → Type 0
-  took m st me r me' = (part : V) → (hand me.0).hold ≡ Rests part → me' ≡ (held me.0 (Away (m.used part)), ((hand me.0).slot, Some part) ∷ me.1)
+  took m st me r me' = (part : V) → (hand me.0).hold ≡ Rests part → me' ≡ (held me.0 (Filling (m.used part)), ((hand me.0).slot, Some part) ∷ me.1)
 
-  abbrev pub claimed : Step (Option V) → Sat V → ℕ → Sat V → Type 0
-  claimed st me r me' = me' ≡ (held me.0 Filling, ((hand me.0).slot, None) ∷ me.1)
+  -- the emptied slot went home
+  abbrev pub emptied : Step (Option V) → Sat V → ℕ → Sat V → Type 0
+  emptied st me r me' = (used : ℕ) (out : List (ℕ × Option V)) → (hand me.0).hold ≡ Filling used → me.1 ≡ ((hand me.0).slot, None) ∷ out → me' ≡ (held me.0 (Away used), out)
+
+  abbrev pub claimed : Meter V → Step (Option V) → Sat V → ℕ → Sat V → Type 0
+  claimed m st me r me' = me' ≡ (held me.0 (Filling (used_now m (hand me.0).hold)), ((hand me.0).slot, None) ∷ me.1)
 
   abbrev pub gave : Meter V → Step (Option V) → Sat V → ℕ → Sat V → Type 0
   gave m st me r me' = (part : V) (out : List (ℕ × Option V)) → me.1 ≡ ((hand me.0).slot, Some part) ∷ out → (me' ≡ (settled m me.0 part, out)) × (slice_index me.0.sizes (hand me.0).slot ≤ m.used part)
@@ -145,6 +139,11 @@ module _ {V : Type 0} where
   abbrev pub spent : View V
   spent = record { hands = []; seen = []; list_steps = 0; sizes = replicate 64 0; base = record { life = 0; linked = untold; spare = untold; callers = untold }; pasts = [] }
 
+  -- the view of a seat that has one
+  abbrev pub sole : List (View V) → View V
+  sole [] = spent
+  sole (v ∷ vs) = v
+
 -- What a seat keeps beside its view is what its view says: of its one caller, of the caller's slot and its used sum, and of the head
 pub record IsSeated {V : Type 0} (m : Meter V) (caller slot : ℕ) (linked : Bool) (used head : ℕ) (me : Sat V) : Type 0 where
   pub one : length me.0.hands ≡ 1
@@ -160,4 +159,5 @@ pub record IsSeated {V : Type 0} (m : Meter V) (caller slot : ℕ) (linked : Boo
   pub own : linked ≡ true → ¬ LacksNode me.0.seen slot caller
   pub few : length me.0.seen ≤ 64
   pub fewer : linked ≡ false → length me.0.seen < 64
-  pub carries : me.1 ≡ carried (hand me.0)
+  -- between two calls it holds no slot
+  pub free : me.1 ≡ []

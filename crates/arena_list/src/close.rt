@@ -4,17 +4,17 @@ ghost use Rattle.std.specs.Slots.{slots_items, slots_filled, slots_len, IsFull};
 ghost use mathlib.Core.Option.{some};
 ghost use lib.ListN.{get_elem?};
 ghost use Rattle.arena_list.specs.Founded.{meter};
+ghost use Rattle.arena_list.specs.Marks.{mark, marked_entry};
 ghost use Rattle.arena_list.specs.Views.{shown};
-ghost use Rattle.arena_list.specs.Seats.{view, life_of};
-ghost use Rattle.arena_list.specs.Closed.{HasTold, Rested, AreAll, AreApart, AreAtMost, AreLinked, used_sum, hand_of, slots_of, spares_of};
+ghost use Rattle.arena_list.specs.Seats.{view, life_of, founding_of};
+ghost use Rattle.arena_list.specs.Closed.{HasTold, AreAll, AreApart, AreAtMost, AreLinked, used_sum, hand_of, slots_of, spares_of};
 
 use crate::collect::{place_others, pull_linked, pull_spares};
 use crate::entry::Entry;
-use crate::list::{ArenaList, ListSeat, Words};
+use crate::list::{ArenaList, ListSeat, OwnSeat, Words};
 use crate::plays::Gather;
-use crate::view::View;
 use arena_mem::{NoMemory, Part};
-use atomic_table::{Closed, Seat};
+use atomic_table::Closed;
 use std::alloc::Global;
 
 /// How many slots a list has.
@@ -53,7 +53,7 @@ fn make_rooms<V: Part>(alloc: Global, seats: usize) -> Result<Rooms<V>, NoMemory
 }
 
 /// Notes the slot of a seat that never joined the list.
-fn note<V: Part>(spare_slots: &mut Vec<(u32, u32)>, seat: &ListSeat<V>)
+fn note(spare_slots: &mut Vec<(u32, u32)>, seat: &ListSeat)
     requires room { length spare_slots.old.items < vec_capacity spare_slots.old }
     ensures items { spare_slots.new.items ≡ spare_slots.old.items ++ slots_of (seat.now ∷ []) }
     ensures room { vec_capacity spare_slots.old ≤ vec_capacity spare_slots.new }
@@ -68,13 +68,12 @@ fn note<V: Part>(spare_slots: &mut Vec<(u32, u32)>, seat: &ListSeat<V>)
 /// Joins all seats into one, and notes the slots of those that never joined the list, the last first.
 fn gather<V: Part>(
     words: &Words<V>,
-    mut seats: Vec<ListSeat<V>>,
+    mut seats: Vec<ListSeat>,
     spare_slots: &mut Vec<(u32, u32)>,
-) -> Seat<Option<V>, View<V>>
+) -> OwnSeat<V>
     requires words { words.now.table_id.words ≡ 592 }
     requires some { 0 < length seats.items }
-    requires list { (k : ℕ) (s : _) → get_elem? seats.items k ≡ some s → s.seat.table_id ≡ words.now.table_id }
-    requires rested { (k : ℕ) (s : _) → get_elem? seats.items k ≡ some s → Rested s }
+    requires list { (k : ℕ) (s : _) → get_elem? seats.items k ≡ some s → s.badge.table_id ≡ words.now.table_id }
     requires room { (spare_slots.old.items ≡ []) × (length seats.items ≤ vec_capacity spare_slots.old) }
     ensures list { result.table_id ≡ words.now.table_id }
     ensures hands { result.me.0.hands ≡ reverse (map hand_of seats.items) }
@@ -87,10 +86,10 @@ fn gather<V: Part>(
         unreachable!()
     };
     note(spare_slots, &last);
-    let mut all = last.seat;
+    let mut all = last.badge.into_seat();
     while let Some(next) = seats.pop() {
         note(spare_slots, &next);
-        words.join_seat::<Gather>(&mut all, next.seat);
+        words.join_seat::<Gather>(&mut all, next.badge.into_seat());
     }
     seats.destroy_empty();
     all
@@ -130,11 +129,11 @@ impl<V: Part> ArenaList<V> {
     pub fn close(
         self,
         alloc: Global,
-        seats: Vec<ListSeat<V>>,
-    ) -> Result<(Vec<Entry<V>>, Vec<Entry<V>>), (NoMemory, ArenaList<V>, Vec<ListSeat<V>>)>
+        seats: Vec<ListSeat>,
+    ) -> Result<(Vec<Entry<V>>, Vec<Entry<V>>), (NoMemory, ArenaList<V>, Vec<ListSeat>)>
         requires all { AreAll self seats.items }
-        ensures linked { IfOk result (λ r. AreLinked self seats.items r.0.items) }
-        ensures spares { IfOk result (λ r. r.1.items ≡ spares_of (map hand_of seats.items)) }
+        ensures linked { IfOk result (λ r. AreLinked (mark V.row.coded (meter V.owner_of V.life_of V.used_of)) self.others.items (founding_of self).linked.items seats.items r.0.items) }
+        ensures spares { IfOk result (λ r. map (marked_entry V.row.coded (meter V.owner_of V.life_of V.used_of)) r.1.items ≡ spares_of (map hand_of seats.items)) }
         // each answer that a seat got of `sizes` is at most what the linked entries use now
         ensures used { IfOk result (λ r. (k : ℕ) (s : _) → get_elem? seats.items k ≡ some s → shown (view s) ≤ used_sum (meter V.owner_of V.life_of V.used_of) r.0.items) }
         ensures apart { IfOk result (λ r. AreApart (meter V.owner_of V.life_of V.used_of) (life_of self) (r.0.items ++ r.1.items)) }

@@ -14,6 +14,7 @@ mod laws;
 mod laying;
 mod list;
 mod make;
+mod mark;
 mod plays;
 mod sizes;
 mod slots;
@@ -26,7 +27,8 @@ mod walk;
 
 pub use entry::Entry;
 pub use founding::Founding;
-pub use laws::words_show_one_list;
+pub use laws::{a_slot_has_one_value, words_show_one_list};
 pub use list::{ArenaList, ListRule, ListSeat};
+pub use mark::Mark;
 pub use told::Told;
 pub use view::{Hand, Hold, Node, View};

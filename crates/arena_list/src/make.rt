@@ -3,6 +3,7 @@ ghost use Rattle.std.specs.Prelude.{◌≡◌, ◌≢◌, ℕ, true, false, None
 ghost use mathlib.Core.Option.{some};
 ghost use lib.ListN.{get_elem?};
 ghost use Rattle.arena_list.specs.Founded.{meter, AreFit, IsLaid, Fits, hand_from, hand_for, first_view, others_of, node_of, entry_of, has, Differ};
+ghost use Rattle.arena_list.specs.Marks.{marked_founding};
 ghost use Rattle.arena_list.specs.Made.{AreSeats, Places, IsMadeOf, AreFirst};
 ghost use Rattle.arena_list.specs.Seats.{view};
 ghost use Rattle.arena_list.specs.Nodes.{head_of};
@@ -10,13 +11,13 @@ ghost use Rattle.arena_list.specs.Nodes.{head_of};
 use crate::entry::Entry;
 use crate::founding::Founding;
 use crate::laying::opening_words;
-use crate::list::{ArenaList, ListSeat, Words};
+use crate::list::{ArenaList, ListSeat, OwnSeat, Words};
 use crate::plays::Deal;
+use crate::slots::put;
 use crate::steps::HEAD;
 use crate::told::Told;
-use crate::view::View;
 use arena_mem::{NoMemory, Part};
-use atomic_table::{Seat, Table};
+use atomic_table::Table;
 use std::alloc::Global;
 
 /// How many slots a list has.
@@ -40,7 +41,7 @@ fn slot_for<V: Part>(linked: &[Entry<V>], spare: &[Entry<V>], caller: u32) -> (u
 }
 
 /// Where the caller's seat is among these, or how many there are.
-fn seat_of<V: Part>(seats: &[ListSeat<V>], caller: u32) -> usize
+fn seat_of(seats: &[ListSeat], caller: u32) -> usize
     ensures within { result ≤ length seats.now }
     ensures found { (s : _) → get_elem? seats.now result ≡ some s → s.caller ≡ caller }
     ensures before { (k : ℕ) (s : _) → k < result → get_elem? seats.now k ≡ some s → s.caller ≢ caller }
@@ -53,36 +54,35 @@ fn seat_of<V: Part>(seats: &[ListSeat<V>], caller: u32) -> usize
     seats.len()
 }
 
-/// Splits off a seat for each caller, in order, and takes its slot, which isn't filled yet.
+/// Splits off a seat for each caller, in order. Its slot isn't filled yet.
 fn deal<V: Part>(
     words: &Words<V>,
-    mut first: Seat<Option<V>, View<V>>,
+    mut first: OwnSeat<V>,
     linked: &[Entry<V>],
     spare: &[Entry<V>],
     callers: &[u32],
     head: u64,
-    seats: &mut Vec<ListSeat<V>>,
+    seats: &mut Vec<ListSeat>,
 )
     requires list { (first.table_id ≡ words.now.table_id) × (words.now.table_id.words ≡ 592) }
     requires key { (words.now.key.linked.items ≡ linked.now) × (words.now.key.spare.items ≡ spare.now) × (words.now.key.callers.items ≡ callers.now) }
     requires fit { AreFit (meter V.owner_of V.life_of V.used_of) words.now.key.life words.now.key.linked.items words.now.key.spare.items words.now.key.callers.items }
-    requires first { first.me ≡ (first_view words.now.key, []) }
+    requires first { first.me ≡ (first_view (marked_founding V.row.coded (meter V.owner_of V.life_of V.used_of) words.now.key), []) }
     requires head { head ≡ head_of (map node_of words.now.key.linked.items) }
     requires room { (seats.old.items ≡ []) × (length callers.now ≤ vec_capacity seats.old) }
-    ensures { AreSeats (meter V.owner_of V.life_of V.used_of) words.now.key words.now.table_id words.now.key.callers.items [] seats.new.items }
+    ensures { AreSeats V.row.coded (meter V.owner_of V.life_of V.used_of) words.now.key words.now.table_id words.now.key.callers.items [] seats.new.items }
 {
     for caller in callers {
         let seat = words.split_seat::<Deal>(&mut first);
         let (slot, is_linked) = slot_for(linked, spare, *caller);
-        let mut seat = ListSeat {
-            seat,
+        let seat = ListSeat {
+            badge: seat.into_badge(),
             caller: *caller,
             slot,
             linked: is_linked,
             used: 0,
             head,
         };
-        seat.claim(words);
         if let Err(_) = seats.push(seat) {
             unreachable!();
         }
@@ -90,17 +90,13 @@ fn deal<V: Part>(
 }
 
 /// Gives an entry's value to its caller's seat. An entry whose caller has no seat comes back.
-fn place<V: Part>(
-    words: &Words<V>,
-    seats: &mut Vec<ListSeat<V>>,
-    entry: Entry<V>,
-) -> Option<Entry<V>>
+fn place<V: Part>(words: &Words<V>, seats: &mut Vec<ListSeat>, entry: Entry<V>) -> Option<Entry<V>>
     requires words { words.now.table_id.words ≡ 592 }
     requires fits { Fits (meter V.owner_of V.life_of V.used_of) words.now.key.life entry.caller entry.part }
     requires once { Differ words.now.key.callers.items }
     requires fit { AreFit (meter V.owner_of V.life_of V.used_of) words.now.key.life words.now.key.linked.items words.now.key.spare.items words.now.key.callers.items }
-    requires seats { (done : _) × AreSeats (meter V.owner_of V.life_of V.used_of) words.now.key words.now.table_id words.now.key.callers.items done seats.old.items × (entry_of done entry.caller ≡ None) }
-    ensures placed { Places (meter V.owner_of V.life_of V.used_of) words.now.key.callers.items entry seats.old.items seats.new.items }
+    requires seats { (done : _) × AreSeats V.row.coded (meter V.owner_of V.life_of V.used_of) words.now.key words.now.table_id words.now.key.callers.items done seats.old.items × (entry_of done entry.caller ≡ None) }
+    ensures placed { Places V.row.coded (meter V.owner_of V.life_of V.used_of) words.now.key.callers.items entry seats.old.items seats.new.items }
     ensures none { IfNone result (has words.now.key.callers.items entry.caller ≡ true) }
     ensures back { IfSome result (λ e. (e ≡ entry) × (has words.now.key.callers.items entry.caller ≡ false)) }
 {
@@ -113,7 +109,7 @@ fn place<V: Part>(
         caller: _,
         part,
     } = entry;
-    seats[at].put(words, part);
+    put(words, &mut seats[at], part);
     None
 }
 
@@ -121,17 +117,17 @@ fn place<V: Part>(
 /// without a seat go to the others, the last first.
 fn fill<V: Part>(
     words: &Words<V>,
-    seats: &mut Vec<ListSeat<V>>,
+    seats: &mut Vec<ListSeat>,
     mut entries: Vec<Entry<V>>,
     earlier: &Told<Entry<V>>,
     others: &mut Vec<Entry<V>>,
 )
     requires words { words.now.table_id.words ≡ 592 }
     requires fit { AreFit (meter V.owner_of V.life_of V.used_of) words.now.key.life words.now.key.linked.items words.now.key.spare.items words.now.key.callers.items }
-    requires seats { AreSeats (meter V.owner_of V.life_of V.used_of) words.now.key words.now.table_id words.now.key.callers.items earlier.now.items seats.old.items }
+    requires seats { AreSeats V.row.coded (meter V.owner_of V.life_of V.used_of) words.now.key words.now.table_id words.now.key.callers.items earlier.now.items seats.old.items }
     requires piece { (front : _) × (front ++ (entries.items ++ earlier.now.items) ≡ words.now.key.linked.items ++ words.now.key.spare.items) }
     requires room { length others.old.items + length entries.items ≤ vec_capacity others.old }
-    ensures seats { AreSeats (meter V.owner_of V.life_of V.used_of) words.now.key words.now.table_id words.now.key.callers.items (entries.items ++ earlier.now.items) seats.new.items }
+    ensures seats { AreSeats V.row.coded (meter V.owner_of V.life_of V.used_of) words.now.key words.now.table_id words.now.key.callers.items (entries.items ++ earlier.now.items) seats.new.items }
     ensures others { others.new.items ≡ others.old.items ++ reverse (others_of entries.items words.now.key.callers.items) }
     ensures room { vec_capacity others.old ≤ vec_capacity others.new }
 {
@@ -146,11 +142,11 @@ fn fill<V: Part>(
 }
 
 /// Room for the others and the seats.
-fn rooms<V: Part>(
+fn rooms<V>(
     alloc: Global,
     others: usize,
     seats: usize,
-) -> Result<(Vec<Entry<V>>, Vec<ListSeat<V>>), NoMemory>
+) -> Result<(Vec<Entry<V>>, Vec<ListSeat>), NoMemory>
     ensures { IfOk result (λ r. (r.0.items ≡ []) × (others ≤ vec_capacity r.0) × (r.1.items ≡ []) × (seats ≤ vec_capacity r.1)) }
 {
     let others = Vec::with_capacity(alloc, others)?;
@@ -176,10 +172,10 @@ impl<V: Part> ArenaList<V> {
         linked: Vec<Entry<V>>,
         spare: Vec<Entry<V>>,
         callers: &[u32],
-    ) -> Result<(ArenaList<V>, Vec<ListSeat<V>>), (NoMemory, Vec<Entry<V>>, Vec<Entry<V>>)>
+    ) -> Result<(ArenaList<V>, Vec<ListSeat>), (NoMemory, Vec<Entry<V>>, Vec<Entry<V>>)>
         requires fit { AreFit (meter V.owner_of V.life_of V.used_of) life linked.items spare.items callers.now }
         ensures list { IfOk result (λ r. IsMadeOf life linked.items spare.items callers.now r.0) }
-        ensures seats { IfOk result (λ r. AreFirst (meter V.owner_of V.life_of V.used_of) r.0 callers.now r.1.items) }
+        ensures seats { IfOk result (λ r. AreFirst V.row.coded (meter V.owner_of V.life_of V.used_of) r.0 callers.now r.1.items) }
         ensures refused { IfErr result (λ e. (e.1.items ≡ linked.items) × (e.2.items ≡ spare.items)) }
     {
         let Ok((mut others, mut seats)) = rooms(alloc, linked.len() + spare.len(), callers.len())

@@ -1,13 +1,13 @@
 //! A caller adds up what the list has used.
 ghost use Rattle.std.specs.Prelude.{◌≡◌, ◌^◌, ◌<◌, ◌≤◌, slice_index};
-ghost use Rattle.arena_list.specs.Founded.{meter};
+ghost use Rattle.arena_list.specs.Marks.{marks};
 ghost use Rattle.arena_list.specs.Views.{hand, out};
 ghost use Rattle.arena_list.specs.Steps.{sized, used_now};
 ghost use Rattle.arena_list.specs.Moments.{SeenSize};
 ghost use Rattle.arena_list.specs.Calls.{HasSummed};
 ghost use Rattle.arena_list.specs.Seats.{view, IsSeatOf, SameList};
 
-use crate::list::{ArenaList, ListSeat};
+use crate::list::{ArenaList, ListSeat, take_up};
 use crate::plays::ReadSize;
 use crate::steps::{SPAN, STATES, STRIDE};
 use arena_mem::Part;
@@ -16,10 +16,10 @@ impl<V: Part> ArenaList<V> {
     /// The sum of the used sums that the states of the list's slots show, each when it is read. It is at least the
     /// caller's own part and each answer that this seat got before. It takes no memory, one list step for the look and
     /// one for each node.
-    pub fn sizes(&self, seat: &mut ListSeat<V>) -> u128
+    pub fn sizes(&self, seat: &mut ListSeat) -> u128
         requires list { IsSeatOf self.now seat.old }
         ensures list { SameList seat.old seat.new }
-        ensures summed { HasSummed (meter V.owner_of V.life_of V.used_of) (view seat.old) (view seat.new) result }
+        ensures summed { HasSummed marks (view seat.old) (view seat.new) result }
     {
         let head = self.look(seat);
         let mut left = head / SPAN;
@@ -36,18 +36,21 @@ impl<V: Part> ArenaList<V> {
     }
 
     /// Loads the state of a slot, and answers the used sum that it shows.
-    fn read_size(&self, seat: &mut ListSeat<V>, slot: u64) -> u64
+    fn read_size(&self, seat: &mut ListSeat, slot: u64) -> u64
         requires list { IsSeatOf self.now seat.old }
         requires slot { slot < 64 }
         ensures list { SameList seat.old seat.new }
         ensures view { view seat.new ≡ sized (view seat.old) slot result }
         ensures more { slice_index (view seat.old).sizes slot ≤ result }
         ensures here { slice_index (view seat.new).sizes slot ≡ result }
-        ensures own { slot ≡ (hand (view seat.old)).slot → result ≡ used_now (meter V.owner_of V.life_of V.used_of) (out (view seat.old)) }
+        ensures own { slot ≡ (hand (view seat.old)).slot → result ≡ used_now marks (out (view seat.old)) }
         ensures small { result < 2 ^ 63 }
-        ensures moment { SeenSize (meter V.owner_of V.life_of V.used_of) (view seat.old).base (view seat.old) slot result }
+        ensures moment { SeenSize marks (view seat.old).base (view seat.old) slot result }
     {
         let state = STATES + slot as usize * STRIDE;
-        self.table.shared.load::<ReadSize>(&mut seat.seat, state) / 2
+        let mut own = take_up(&mut seat.badge);
+        let word = self.table.shared.load::<ReadSize>(&mut own, state);
+        seat.badge = own.into_badge();
+        word / 2
     }
 }

@@ -3,13 +3,13 @@ ghost use Rattle.std.specs.Prelude.{◌≡◌, ℕ, ◌+◌, ◌<◌, ◌≤◌,
 ghost use mathlib.Core.Option.{some};
 ghost use lib.ListN.{get_elem?};
 ghost use Rattle.arena_list.specs.Nodes.{before, head_of, node_word, Begins};
-ghost use Rattle.arena_list.specs.Founded.{meter};
+ghost use Rattle.arena_list.specs.Marks.{marks};
 ghost use Rattle.arena_list.specs.Views.{hand};
 ghost use Rattle.arena_list.specs.Moments.{SeenList};
 ghost use Rattle.arena_list.specs.Steps.{Sees, counted, looked, noted, joined};
 ghost use Rattle.arena_list.specs.Seats.{view, IsSeatOf, SameList};
 
-use crate::list::{ArenaList, ListSeat};
+use crate::list::{ArenaList, ListSeat, take_up};
 use crate::plays::{Link, Look, ReadNode, StoreNode};
 use arena_mem::Part;
 
@@ -30,20 +30,22 @@ pub(crate) const SPAN: u64 = 1 << 32;
 
 impl<V: Part> ArenaList<V> {
     /// Loads the head, and answers it.
-    pub(crate) fn look(&self, seat: &mut ListSeat<V>) -> u64
+    pub(crate) fn look(&self, seat: &mut ListSeat) -> u64
         requires { IsSeatOf self.now seat.old }
         ensures list { SameList seat.old seat.new }
         ensures view { view seat.new ≡ looked (view seat.old) (view seat.new).seen }
         ensures seen { Begins (view seat.old).seen (view seat.new).seen × Sees (hand (view seat.old)) (view seat.new).seen }
         ensures head { result ≡ head_of (view seat.new).seen }
-        ensures moment { SeenList (meter V.owner_of V.life_of V.used_of) (view seat.old).base (view seat.old) (view seat.new).seen }
+        ensures moment { SeenList marks (view seat.old).base (view seat.old) (view seat.new).seen }
     {
-        seat.head = self.table.shared.load::<Look>(&mut seat.seat, HEAD);
+        let mut own = take_up(&mut seat.badge);
+        seat.head = self.table.shared.load::<Look>(&mut own, HEAD);
+        seat.badge = own.into_badge();
         seat.head
     }
 
     /// Loads the node of a slot, and answers it.
-    pub(crate) fn read_node(&self, seat: &mut ListSeat<V>, slot: u64) -> u64
+    pub(crate) fn read_node(&self, seat: &mut ListSeat, slot: u64) -> u64
         requires list { IsSeatOf self.now seat.old }
         requires slot { slot < 64 }
         ensures list { SameList seat.old seat.new }
@@ -51,23 +53,28 @@ impl<V: Part> ArenaList<V> {
         ensures node { (k : ℕ) (n : _) → get_elem? (view seat.old).seen k ≡ some n → slot ≡ n.slot → result ≡ node_word n.caller (before (view seat.old).seen k) }
     {
         let word = NODES + slot as usize;
-        self.table.shared.load::<ReadNode>(&mut seat.seat, word)
+        let mut own = take_up(&mut seat.badge);
+        let node = self.table.shared.load::<ReadNode>(&mut own, word);
+        seat.badge = own.into_badge();
+        node
     }
 
     /// Tries to link the caller's spare behind the list as the seat has seen it. It does not where the list is longer.
-    pub(crate) fn try_link(&self, seat: &mut ListSeat<V>) -> bool
+    pub(crate) fn try_link(&self, seat: &mut ListSeat) -> bool
         requires list { IsSeatOf self.now seat.old }
         requires spare { (hand (view seat.old)).linked ≡ false }
         ensures list { SameList seat.old seat.new }
-        ensures linked { IsTrue result → (view seat.new ≡ joined (noted (view seat.old))) × SeenList (meter V.owner_of V.life_of V.used_of) (view seat.old).base (noted (view seat.old)) (view seat.old).seen }
+        ensures linked { IsTrue result → (view seat.new ≡ joined (noted (view seat.old))) × SeenList marks (view seat.old).base (noted (view seat.old)) (view seat.old).seen }
         ensures longer { result ≡ false → (view seat.new ≡ looked (noted (view seat.old)) (view seat.new).seen) × Begins (view seat.old).seen (view seat.new).seen × (length (view seat.old).seen < length (view seat.new).seen) }
     {
         let words = &self.table.shared;
         let link = seat.head % SPAN;
         let node = seat.caller as u64 * SPAN + link;
         let head = (seat.head / SPAN + 1) * SPAN + seat.slot as u64 + 1;
-        words.store::<StoreNode>(&mut seat.seat, NODES + seat.slot as usize, node);
-        let found = words.compare_exchange::<Link>(&mut seat.seat, HEAD, seat.head, head);
+        let mut own = take_up(&mut seat.badge);
+        words.store::<StoreNode>(&mut own, NODES + seat.slot as usize, node);
+        let found = words.compare_exchange::<Link>(&mut own, HEAD, seat.head, head);
+        seat.badge = own.into_badge();
         if found == seat.head {
             seat.linked = true;
             seat.head = head;

@@ -3,6 +3,7 @@ ghost use Rattle.std.specs.Prelude.{◌≡◌, ◌≤◌, ◌<◌, [], ◌∷◌
 ghost use Rattle.std.specs.Thread.{IsSync};
 ghost use Rattle.arena_list.specs.Founded.{meter, AreFit, Fits};
 ghost use Rattle.arena_list.specs.Views.{mine};
+ghost use Rattle.arena_list.specs.contracts.tests.Counter.{the_row};
 ghost use Rattle.arena_list.specs.Seats.{view, IsHome, AreHome};
 
 use crate::{ArenaList, Entry, ListSeat};
@@ -68,9 +69,9 @@ fn made(
     linked: Vec<Entry<Counter>>,
     spare: Vec<Entry<Counter>>,
     callers: &[u32],
-) -> Result<(ArenaList<Counter>, Vec<ListSeat<Counter>>), Fail>
+) -> Result<(ArenaList<Counter>, Vec<ListSeat>), Fail>
     requires { AreFit (meter (λ (c : Counter). c.owner) (λ (c : Counter). c.life) (λ (c : Counter). c.used)) 5 linked.items spare.items callers.now }
-    ensures home { IfOk result (λ r. All (IsHome (meter (λ (c : Counter). c.owner) (λ (c : Counter). c.life) (λ (c : Counter). c.used)) r.0) r.1.items) }
+    ensures home { IfOk result (λ r. All (IsHome the_row.coded (meter (λ (c : Counter). c.owner) (λ (c : Counter). c.life) (λ (c : Counter). c.used)) r.0) r.1.items) }
     ensures count { IfOk result (λ r. length r.1.items ≡ length callers.now) }
     ensures callers { IfOk result (λ r. length r.0.table.shared.key.callers.items ≡ length callers.now) }
 {
@@ -84,10 +85,10 @@ fn made(
 fn closed(
     alloc: Global,
     list: ArenaList<Counter>,
-    seats: Vec<ListSeat<Counter>>,
+    seats: Vec<ListSeat>,
 ) -> Result<(Vec<Entry<Counter>>, Vec<Entry<Counter>>), Fail>
     requires count { length seats.items ≡ length list.table.shared.key.callers.items }
-    requires home { All (IsHome (meter (λ (c : Counter). c.owner) (λ (c : Counter). c.life) (λ (c : Counter). c.used)) list) seats.items }
+    requires home { All (IsHome the_row.coded (meter (λ (c : Counter). c.owner) (λ (c : Counter). c.life) (λ (c : Counter). c.used)) list) seats.items }
 {
     match list.close(alloc, seats) {
         Ok(entries) => Ok(entries),
@@ -100,9 +101,9 @@ fn made_again(
     alloc: Global,
     spare: Vec<Entry<Counter>>,
     callers: &[u32],
-) -> Result<(ArenaList<Counter>, Vec<ListSeat<Counter>>), Fail>
+) -> Result<(ArenaList<Counter>, Vec<ListSeat>), Fail>
     requires { AreFit (meter (λ (c : Counter). c.owner) (λ (c : Counter). c.life) (λ (c : Counter). c.used)) 5 [] spare.items callers.now }
-    ensures home { IfOk result (λ r. All (IsHome (meter (λ (c : Counter). c.owner) (λ (c : Counter). c.life) (λ (c : Counter). c.used)) r.0) r.1.items) }
+    ensures home { IfOk result (λ r. All (IsHome the_row.coded (meter (λ (c : Counter). c.owner) (λ (c : Counter). c.life) (λ (c : Counter). c.used)) r.0) r.1.items) }
     ensures count { IfOk result (λ r. length r.1.items ≡ length callers.now) }
     ensures callers { IfOk result (λ r. length r.0.table.shared.key.callers.items ≡ length callers.now) }
 {
@@ -116,10 +117,10 @@ fn made_again(
 fn closed_again(
     alloc: Global,
     list: ArenaList<Counter>,
-    seats: Vec<ListSeat<Counter>>,
+    seats: Vec<ListSeat>,
 ) -> Result<(Vec<Entry<Counter>>, Vec<Entry<Counter>>), Fail>
     requires count { length seats.items ≡ length list.table.shared.key.callers.items }
-    requires home { All (IsHome (meter (λ (c : Counter). c.owner) (λ (c : Counter). c.life) (λ (c : Counter). c.used)) list) seats.items }
+    requires home { All (IsHome the_row.coded (meter (λ (c : Counter). c.owner) (λ (c : Counter). c.life) (λ (c : Counter). c.used)) list) seats.items }
 {
     match list.close(alloc, seats) {
         Ok(entries) => Ok(entries),
@@ -157,9 +158,9 @@ fn stands_once(entries: &[Entry<Counter>], slot: u32) -> bool
 }
 
 /// Finds the caller's slot, or else joins the list. Whether it joined, and the slot.
-fn enter<V: Part>(list: &ArenaList<V>, seat: &mut ListSeat<V>) -> (bool, u32)
-    requires { IsHome (meter V.owner_of V.life_of V.used_of) list.now seat.old }
-    ensures home { IsHome (meter V.owner_of V.life_of V.used_of) list.now seat.new }
+fn enter<V: Part>(list: &ArenaList<V>, seat: &mut ListSeat) -> (bool, u32)
+    requires { IsHome V.row.coded (meter V.owner_of V.life_of V.used_of) list.now seat.old }
+    ensures home { IsHome V.row.coded (meter V.owner_of V.life_of V.used_of) list.now seat.new }
     ensures own { mine (view seat.new) ≡ Some result.1 }
 {
     match list.find(seat) {
@@ -169,10 +170,10 @@ fn enter<V: Part>(list: &ArenaList<V>, seat: &mut ListSeat<V>) -> (bool, u32)
 }
 
 /// Lets the used sum of the caller's part grow by 24.
-fn fill(list: &ArenaList<Counter>, seat: &mut ListSeat<Counter>, slot: u32)
-    requires home { IsHome (meter (λ (c : Counter). c.owner) (λ (c : Counter). c.life) (λ (c : Counter). c.used)) list.now seat.old }
+fn fill(list: &ArenaList<Counter>, seat: &mut ListSeat, slot: u32)
+    requires home { IsHome the_row.coded (meter (λ (c : Counter). c.owner) (λ (c : Counter). c.life) (λ (c : Counter). c.used)) list.now seat.old }
     requires own { mine (view seat.old) ≡ Some slot }
-    ensures { IsHome (meter (λ (c : Counter). c.owner) (λ (c : Counter). c.life) (λ (c : Counter). c.used)) list.now seat.new }
+    ensures { IsHome the_row.coded (meter (λ (c : Counter). c.owner) (λ (c : Counter). c.life) (λ (c : Counter). c.used)) list.now seat.new }
 {
     let mut part = list.take_slot(seat, slot);
     if part.used < 1000 {
@@ -182,11 +183,11 @@ fn fill(list: &ArenaList<Counter>, seat: &mut ListSeat<Counter>, slot: u32)
 }
 
 /// Whether the caller of the seat at this place joined, and its slot, into whose part it puts 24 bytes more.
-fn work(list: &ArenaList<Counter>, seats: &mut [ListSeat<Counter>], at: usize) -> (bool, u32)
+fn work(list: &ArenaList<Counter>, seats: &mut [ListSeat], at: usize) -> (bool, u32)
     requires within { at < length seats.old }
-    requires home { All (IsHome (meter (λ (c : Counter). c.owner) (λ (c : Counter). c.life) (λ (c : Counter). c.used)) list.now) seats.old }
+    requires home { All (IsHome the_row.coded (meter (λ (c : Counter). c.owner) (λ (c : Counter). c.life) (λ (c : Counter). c.used)) list.now) seats.old }
     ensures count { length seats.new ≡ length seats.old }
-    ensures home { All (IsHome (meter (λ (c : Counter). c.owner) (λ (c : Counter). c.life) (λ (c : Counter). c.used)) list.now) seats.new }
+    ensures home { All (IsHome the_row.coded (meter (λ (c : Counter). c.owner) (λ (c : Counter). c.life) (λ (c : Counter). c.used)) list.now) seats.new }
 {
     let seat = &mut seats[at];
     let (has_joined, slot) = enter(list, seat);
@@ -195,30 +196,30 @@ fn work(list: &ArenaList<Counter>, seats: &mut [ListSeat<Counter>], at: usize) -
 }
 
 /// The same without a byte more.
-fn come(list: &ArenaList<Counter>, seats: &mut [ListSeat<Counter>], at: usize) -> (bool, u32)
+fn come(list: &ArenaList<Counter>, seats: &mut [ListSeat], at: usize) -> (bool, u32)
     requires within { at < length seats.old }
-    requires home { All (IsHome (meter (λ (c : Counter). c.owner) (λ (c : Counter). c.life) (λ (c : Counter). c.used)) list.now) seats.old }
+    requires home { All (IsHome the_row.coded (meter (λ (c : Counter). c.owner) (λ (c : Counter). c.life) (λ (c : Counter). c.used)) list.now) seats.old }
     ensures count { length seats.new ≡ length seats.old }
-    ensures home { All (IsHome (meter (λ (c : Counter). c.owner) (λ (c : Counter). c.life) (λ (c : Counter). c.used)) list.now) seats.new }
+    ensures home { All (IsHome the_row.coded (meter (λ (c : Counter). c.owner) (λ (c : Counter). c.life) (λ (c : Counter). c.used)) list.now) seats.new }
 {
     enter(list, &mut seats[at])
 }
 
 /// What the caller of the seat at this place finds used.
-fn sizes(list: &ArenaList<Counter>, seats: &mut [ListSeat<Counter>], at: usize) -> u128
+fn sizes(list: &ArenaList<Counter>, seats: &mut [ListSeat], at: usize) -> u128
     requires within { at < length seats.old }
-    requires home { All (IsHome (meter (λ (c : Counter). c.owner) (λ (c : Counter). c.life) (λ (c : Counter). c.used)) list.now) seats.old }
+    requires home { All (IsHome the_row.coded (meter (λ (c : Counter). c.owner) (λ (c : Counter). c.life) (λ (c : Counter). c.used)) list.now) seats.old }
     ensures count { length seats.new ≡ length seats.old }
-    ensures home { All (IsHome (meter (λ (c : Counter). c.owner) (λ (c : Counter). c.life) (λ (c : Counter). c.used)) list.now) seats.new }
+    ensures home { All (IsHome the_row.coded (meter (λ (c : Counter). c.owner) (λ (c : Counter). c.life) (λ (c : Counter). c.used)) list.now) seats.new }
 {
     list.sizes(&mut seats[at])
 }
 
 /// Each caller works in a thread of its own.
 #[cycle(halves)]
-fn work_all<R: Threads + Sync>(rt: &R, list: &ArenaList<Counter>, seats: &mut [ListSeat<Counter>])
-    requires { AreHome (meter (λ (c : Counter). c.owner) (λ (c : Counter). c.life) (λ (c : Counter). c.used)) list.now (length seats.old) seats.old }
-    ensures { AreHome (meter (λ (c : Counter). c.owner) (λ (c : Counter). c.life) (λ (c : Counter). c.used)) list.now (length seats.old) seats.new }
+fn work_all<R: Threads + Sync>(rt: &R, list: &ArenaList<Counter>, seats: &mut [ListSeat])
+    requires { AreHome the_row.coded (meter (λ (c : Counter). c.owner) (λ (c : Counter). c.life) (λ (c : Counter). c.used)) list.now (length seats.old) seats.old }
+    ensures { AreHome the_row.coded (meter (λ (c : Counter). c.owner) (λ (c : Counter). c.life) (λ (c : Counter). c.used)) list.now (length seats.old) seats.new }
 {
     if seats.len() < 2 {
         if seats.len() == 1 {
@@ -235,24 +236,24 @@ fn work_all<R: Threads + Sync>(rt: &R, list: &ArenaList<Counter>, seats: &mut [L
 fn work_both<R: Threads + Sync>(
     rt: &R,
     list: &ArenaList<Counter>,
-    left: &mut [ListSeat<Counter>],
-    right: &mut [ListSeat<Counter>],
+    left: &mut [ListSeat],
+    right: &mut [ListSeat],
 )
     requires some { (0 < length left.old) × (0 < length right.old) }
-    requires left { AreHome (meter (λ (c : Counter). c.owner) (λ (c : Counter). c.life) (λ (c : Counter). c.used)) list.now (length left.old) left.old }
-    requires right { AreHome (meter (λ (c : Counter). c.owner) (λ (c : Counter). c.life) (λ (c : Counter). c.used)) list.now (length right.old) right.old }
-    ensures left { AreHome (meter (λ (c : Counter). c.owner) (λ (c : Counter). c.life) (λ (c : Counter). c.used)) list.now (length left.old) left.new }
-    ensures right { AreHome (meter (λ (c : Counter). c.owner) (λ (c : Counter). c.life) (λ (c : Counter). c.used)) list.now (length right.old) right.new }
+    requires left { AreHome the_row.coded (meter (λ (c : Counter). c.owner) (λ (c : Counter). c.life) (λ (c : Counter). c.used)) list.now (length left.old) left.old }
+    requires right { AreHome the_row.coded (meter (λ (c : Counter). c.owner) (λ (c : Counter). c.life) (λ (c : Counter). c.used)) list.now (length right.old) right.old }
+    ensures left { AreHome the_row.coded (meter (λ (c : Counter). c.owner) (λ (c : Counter). c.life) (λ (c : Counter). c.used)) list.now (length left.old) left.new }
+    ensures right { AreHome the_row.coded (meter (λ (c : Counter). c.owner) (λ (c : Counter). c.life) (λ (c : Counter). c.used)) list.now (length right.old) right.new }
 {
     join_mut(
         rt,
         &mut ||
-            requires { IsSync R.row × AreHome (meter (λ (c : Counter). c.owner) (λ (c : Counter). c.life) (λ (c : Counter). c.used)) list.now (length left.now) left.now }
-            ensures { AreHome (meter (λ (c : Counter). c.owner) (λ (c : Counter). c.life) (λ (c : Counter). c.used)) list.entry.now (length left.entry.now) left.exit.now }
+            requires { IsSync R.row × AreHome the_row.coded (meter (λ (c : Counter). c.owner) (λ (c : Counter). c.life) (λ (c : Counter). c.used)) list.now (length left.now) left.now }
+            ensures { AreHome the_row.coded (meter (λ (c : Counter). c.owner) (λ (c : Counter). c.life) (λ (c : Counter). c.used)) list.entry.now (length left.entry.now) left.exit.now }
         { work_all(rt, list, left) },
         &mut ||
-            requires { IsSync R.row × AreHome (meter (λ (c : Counter). c.owner) (λ (c : Counter). c.life) (λ (c : Counter). c.used)) list.now (length right.now) right.now }
-            ensures { AreHome (meter (λ (c : Counter). c.owner) (λ (c : Counter). c.life) (λ (c : Counter). c.used)) list.entry.now (length right.entry.now) right.exit.now }
+            requires { IsSync R.row × AreHome the_row.coded (meter (λ (c : Counter). c.owner) (λ (c : Counter). c.life) (λ (c : Counter). c.used)) list.now (length right.now) right.now }
+            ensures { AreHome the_row.coded (meter (λ (c : Counter). c.owner) (λ (c : Counter). c.life) (λ (c : Counter). c.used)) list.entry.now (length right.entry.now) right.exit.now }
         { work_all(rt, list, right) },
     );
 }

@@ -12,9 +12,9 @@ pub struct Node {
 pub enum Hold<V> {
     /// In the hand of `make`: the slot isn't filled yet.
     Vacant,
-    /// With the seat, which is about to fill the slot for the first time.
-    Filling,
-    /// With the seat, and had this used sum when it was taken.
+    /// The slot is with the seat within a call, and shows this used sum.
+    Filling { used: u64 },
+    /// The value is out, and had this used sum when it was taken. The emptied slot is at home.
     Away { used: u64 },
     /// At home in the slot.
     Rests { part: V },

@@ -1,6 +1,6 @@
 //! Callers find their slot in the list, and join it.
 ghost use Rattle.std.specs.Prelude.{◌≡◌, None};
-ghost use Rattle.arena_list.specs.Founded.{meter};
+ghost use Rattle.arena_list.specs.Marks.{marks};
 ghost use Rattle.arena_list.specs.Views.{mine};
 ghost use Rattle.arena_list.specs.Calls.{HasFound, HasJoined};
 ghost use Rattle.arena_list.specs.Seats.{view, IsSeatOf, SameList};
@@ -12,10 +12,10 @@ use arena_mem::Part;
 impl<V: Part> ArenaList<V> {
     /// The caller's slot, or `None` exactly where the list that was looked at has no node of the caller. It takes no
     /// memory, and at most a list step for the look and one for each node.
-    pub fn find(&self, seat: &mut ListSeat<V>) -> Option<u32>
+    pub fn find(&self, seat: &mut ListSeat) -> Option<u32>
         requires list { IsSeatOf self.now seat.old }
         ensures list { SameList seat.old seat.new }
-        ensures found { HasFound (meter V.owner_of V.life_of V.used_of) (view seat.old) (view seat.new) result }
+        ensures found { HasFound marks (view seat.old) (view seat.new) result }
     {
         let head = self.look(seat);
         let mut left = head / SPAN;
@@ -34,11 +34,11 @@ impl<V: Part> ArenaList<V> {
 
     /// Links the caller's spare at the end of the list, and answers its slot. It takes no memory, and two list steps
     /// for each of at most 64 tries: an exchange that fails showed a longer list.
-    pub fn join(&self, seat: &mut ListSeat<V>) -> u32
+    pub fn join(&self, seat: &mut ListSeat) -> u32
         requires list { IsSeatOf self.now seat.old }
         requires spare { mine (view seat.old) ≡ None }
         ensures list { SameList seat.old seat.new }
-        ensures joined { HasJoined (meter V.owner_of V.life_of V.used_of) (view seat.old) (view seat.new) result }
+        ensures joined { HasJoined marks (view seat.old) (view seat.new) result }
     {
         while !self.try_link(seat) {}
         seat.slot

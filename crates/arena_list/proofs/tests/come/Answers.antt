@@ -1,8 +1,9 @@
 use Rattle.std.proofs.lemmas.List.Elements.{All-set}
+use Rattle.arena_list.specs.contracts.tests.Counter.{the_row}
 use Rattle.arena_list.specs.declared.tests.Counter.{Counter}
 use Rattle.arena_list.specs.Founded.{meter}
 use Rattle.arena_list.specs.Seats.{IsHome}
 use Rattle.arena_list.proofs.tests.come.Goals as goal
 
 pub returns-clause-home : goal.returns-clause-home
-returns-clause-home c = All-set (IsHome (meter (λ (x : Counter). x.owner) (λ (x : Counter). x.life) (λ (x : Counter). x.used)) c.args.list.now) c.args.seats.now c.args.at c.enter.new.seat c.enter.ensures.home c.requires.home
+returns-clause-home c = All-set (IsHome the_row.coded (meter (λ (x : Counter). x.owner) (λ (x : Counter). x.life) (λ (x : Counter). x.used)) c.args.list.now) c.args.seats.now c.args.at c.enter.new.seat c.enter.ensures.home c.requires.home

@@ -1,5 +1,5 @@
 use Rattle.std.proofs.Common.{ℕ, refl, arith, sym, subst, ◌∙◌}
-use Rattle.arena_list.specs.Founded.{meter}
+use Rattle.arena_list.specs.Marks.{marks}
 use Rattle.arena_list.specs.Calls.{IsWalking}
 use Rattle.arena_list.specs.Seats.{view}
 use Rattle.arena_list.proofs.SeatFacts.{seen_own}
@@ -21,7 +21,7 @@ overflow_cast-result g c = let e = c.look-head.ensures in let old = view c.args.
 pub returns-then-node-seat-clause-found : goal.returns-then-node-seat-clause-found
 returns-then-node-seat-clause-found g c = let e = c.look-head.ensures in let r = c.read_node-node.ensures in let old = view c.args.seat.now in let v = view c.look-head.new.seat in
     let own = c.read_node-node.new.seat.seated.caller_is ∙ walk_who v _ _ _ _ c.loop-left.invariant.1 r.view in
-    walk_finds v (sees_after old v e.view e.seen.1) (meter g.V.Part.owner_of g.V.Part.life_of g.V.Part.used_of) old _ _ _ _ _ _ e.view e.seen.0 e.moment c.loop-left.invariant.1 c.loop-left-test.true r.view r.node (c.if-node-seat.true ∙ own) refl (seen_own (meter g.V.Part.owner_of g.V.Part.life_of g.V.Part.used_of) c.read_node-node.new.seat.seated)
+    walk_finds v (sees_after old v e.view e.seen.1) marks old _ _ _ _ _ _ e.view e.seen.0 e.moment c.loop-left.invariant.1 c.loop-left-test.true r.view r.node (c.if-node-seat.true ∙ own) refl (seen_own marks c.read_node-node.new.seat.seated)
 
 pub loop-left-preserved : goal.loop-left-preserved
 loop-left-preserved g c = let e = c.look-head.ensures in let r = c.read_node-node.ensures in let old = view c.args.seat.now in let v = view c.look-head.new.seat in
@@ -30,4 +30,4 @@ loop-left-preserved g c = let e = c.look-head.ensures in let r = c.read_node-nod
 
 pub returns-clause-found : goal.returns-clause-found
 returns-clause-found g c = let e = c.look-head.ensures in let old = view c.args.seat.now in let v = view c.look-head.new.seat in
-    walk_ends v (sees_after old v e.view e.seen.1) (meter g.V.Part.owner_of g.V.Part.life_of g.V.Part.used_of) old _ _ e.view e.seen.0 e.moment (subst (λ (left : ℕ). IsWalking v (view c.loop-left.seat) left c.loop-left.link) (let h = c.loop-left-test.false in omega arith) c.loop-left.invariant.1) (seen_own (meter g.V.Part.owner_of g.V.Part.life_of g.V.Part.used_of) c.loop-left.seat.seated)
+    walk_ends v (sees_after old v e.view e.seen.1) marks old _ _ e.view e.seen.0 e.moment (subst (λ (left : ℕ). IsWalking v (view c.loop-left.seat) left c.loop-left.link) (let h = c.loop-left-test.false in omega arith) c.loop-left.invariant.1) (seen_own marks c.loop-left.seat.seated)

@@ -1,5 +1,5 @@
 use Rattle.std.proofs.Common.{rules, ap, ◌∙◌}
-use Rattle.arena_list.specs.Founded.{meter}
+use Rattle.arena_list.specs.Marks.{marks}
 use Rattle.arena_list.specs.Views.{hand}
 use Rattle.arena_list.specs.Seats.{view}
 use Rattle.arena_list.proofs.SeatFacts.{mine_none, seen_own}
@@ -8,4 +8,4 @@ use Rattle.arena_list.proofs.list.ArenaList.join.Goals as goal
 
 pub returns-clause-joined : goal.returns-clause-joined
 returns-clause-joined g c = let o = c.loop.invariant.1 in let is = c.try_link.ensures.linked (search rules) in let seated = c.try_link.new.seat.seated in
-    tries_end (view c.args.seat.now) (meter g.V.Part.owner_of g.V.Part.life_of g.V.Part.used_of) (view c.loop.seat) (view c.try_link.new.seat) c.try_link.new.seat.slot o is.0 is.1 (mine_none (view c.args.seat.now) c.requires.spare) seated.few (seated.slot_is ∙ ap (λ x. (hand x).slot) is.0 ∙ o.slot) (seen_own (meter g.V.Part.owner_of g.V.Part.life_of g.V.Part.used_of) seated)
+    tries_end (view c.args.seat.now) marks (view c.loop.seat) (view c.try_link.new.seat) c.try_link.new.seat.slot o is.0 is.1 (mine_none (view c.args.seat.now) c.requires.spare) seated.few (seated.slot_is ∙ ap (λ x. (hand x).slot) is.0 ∙ o.slot) (seen_own marks seated)

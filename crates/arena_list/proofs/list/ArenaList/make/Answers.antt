@@ -1,7 +1,7 @@
 use Rattle.std.proofs.Common.{refl, arith, sym, ap, ◌∙◌, ◌++◌, length, subst}
 use Rattle.arena_list.specs.declared.founding.Founding.{Founding}
 use Rattle.arena_list.specs.Founded.{meter, AreFit}
-use Rattle.arena_list.proofs.Opening.{opens}
+use Rattle.arena_list.proofs.Marked.{opens_seen}
 use Rattle.arena_list.proofs.Filling.{no_other_spare, spare_seated}
 use Rattle.arena_list.proofs.Making.{fit_as, laid_as, none_yet, in_order, are_first, others_apart}
 use Rattle.arena_list.proofs.list.ArenaList.make.Goals as goal
@@ -9,7 +9,7 @@ use Rattle.arena_list.proofs.list.ArenaList.make.Goals as goal
 pub vacant-requires : goal.vacant-requires
 vacant-requires g c = let k : Founding g.row.V.Denot = record { life = c.args.life; linked = c.of.result; spare = c.of-2.result; callers = c.of-3.result } in
     let linked_is = c.of.ensures ∙ c.as_slice-2.ensures.value in let spare_is = c.of-2.ensures ∙ c.as_slice-3.ensures.value in
-    opens (meter g.V.Part.owner_of g.V.Part.life_of g.V.Part.used_of) k c.opening_words-words.result
+    opens_seen g.row.V.coded (meter g.V.Part.owner_of g.V.Part.life_of g.V.Part.used_of) k c.opening_words-words.result
     (fit_as (meter g.V.Part.owner_of g.V.Part.life_of g.V.Part.used_of) c.args.life c.args.linked.items k.linked.items c.args.spare.items k.spare.items c.args.callers.now k.callers.items linked_is spare_is c.of-3.ensures c.requires.fit)
     (laid_as (meter g.V.Part.owner_of g.V.Part.life_of g.V.Part.used_of) c.as_slice.result.now k.linked.items c.args.callers.now k.callers.items c.opening_words-words.result (linked_is ∙ sym c.as_slice.ensures.value) c.of-3.ensures c.opening_words-words.ensures)
 
@@ -36,5 +36,5 @@ pub returns-clause-seats : goal.returns-clause-seats
 returns-clause-seats g c = let key = c.in-Ok-vacant.ensures.5 in let linked_told = c.of.ensures ∙ c.as_slice-2.ensures.value in let spare_told = c.of-2.ensures ∙ c.as_slice-3.ensures.value in
     let linked_is = ap (λ k. k.linked.items) key ∙ linked_told in let callers_is = ap (λ k. k.callers.items) key ∙ c.of-3.ensures in
     let fit = fit_as (meter g.V.Part.owner_of g.V.Part.life_of g.V.Part.used_of) c.args.life c.args.linked.items c.of.result.items c.args.spare.items c.of-2.result.items c.args.callers.now c.of-3.result.items linked_told spare_told c.of-3.ensures c.requires.fit in
-    are_first (meter g.V.Part.owner_of g.V.Part.life_of g.V.Part.used_of) _ (subst (λ (k : Founding g.row.V.Denot). AreFit (meter g.V.Part.owner_of g.V.Part.life_of g.V.Part.used_of) k.life k.linked.items k.spare.items k.callers.items) (sym key) fit) c.args.callers.now (c.args.linked.items ++ c.of-2.result.items) c.fill-2.new.seats.items callers_is
+    are_first g.row.V.coded (meter g.V.Part.owner_of g.V.Part.life_of g.V.Part.used_of) _ (subst (λ (k : Founding g.row.V.Denot). AreFit (meter g.V.Part.owner_of g.V.Part.life_of g.V.Part.used_of) k.life k.linked.items k.spare.items k.callers.items) (sym key) fit) c.args.callers.now (c.args.linked.items ++ c.of-2.result.items) c.fill-2.new.seats.items callers_is
     (λ i. sym linked_is i ++ sym (ap (λ k. k.spare.items) key) i) c.fill-2.ensures.seats
