@@ -7,16 +7,13 @@ ghost use Rattle.pb_wire.specs.FramePlaces.{payload_in, payloads_at, Inside, All
 
 use crate::frame_fault::FrameFault;
 use crate::frame_place::FramePlace;
-use crate::tag::LENGTH_BYTES;
+use crate::tag::{LENGTH_BYTES, LENGTH_END};
 use crate::varint::find_varint;
 use std::alloc::Global;
 use std::marker::Model;
 
 /// How many frames a file may have.
 const MOST_FRAMES: usize = 1 << 20;
-
-/// Payloads are shorter than this.
-const LENGTH_END: u64 = 1 << 31;
 
 /// The bytes of a file, and where its frames begin in them. Contracts see the list of the payloads.
 ///

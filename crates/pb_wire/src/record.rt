@@ -7,13 +7,10 @@ ghost use Rattle.pb_schema.specs.Fault.{most_levels};
 ghost use Rattle.pb_wire.specs.Placed.{moved, moved_part};
 ghost use Rattle.pb_wire.specs.PlacedRecord.{placed};
 
-use crate::tag::{LENGTH_BYTES, read_tag};
+use crate::tag::{LENGTH_BYTES, LENGTH_END, read_tag};
 use crate::varint::{VALUE_BYTES, find_varint, varint_fault};
 use crate::wire_record::WireRecord;
 use pb_schema::{WireFault, WireKind};
-
-/// Lengths are below this.
-const LENGTH_END: u64 = 1 << 31;
 
 /// A message or a group is at most so many levels below the root.
 const MOST_LEVELS: u32 = 100;

@@ -5,7 +5,8 @@ ghost use Rattle.pb_schema.specs.Tag.{tag_of};
 ghost use Rattle.pb_schema.specs.Form.{read_tag as tag_read};
 ghost use Rattle.pb_wire.specs.Placed.{moved_tag};
 
-use crate::varint::{find_varint, varint_fault, write_varint};
+use crate::varint::{find_varint, varint_fault};
+use crate::write::write_varint;
 use pb_schema::{WireFault, WireKind};
 
 /// The most bytes of a tag.
@@ -13,6 +14,9 @@ const TAG_BYTES: usize = 5;
 
 /// The most bytes of a length or a frame's prefix.
 pub(crate) const LENGTH_BYTES: usize = 5;
+
+/// Lengths and prefixes are below this.
+pub(crate) const LENGTH_END: u64 = 1 << 31;
 
 /// Tags are below this.
 const TAG_END: u64 = 1 << 32;
