@@ -1,5 +1,6 @@
 // Varints in the front of some bytes, read eight bytes at a time: for readers of whole payloads.
-ghost use Rattle.std.specs.Prelude.{◌≡◌, ◌+◌, ◌-◌, ◌^◌, ◌<◌, ◌≤◌, List, ℕ, length, take, drop, Ok, Some, IsErr, IfSome, IfNone};
+ghost use Rattle.std.specs.Prelude.{◌≡◌, ◌+◌, ◌-◌, ◌^◌, ◌<◌, ◌≤◌, List, ℕ, length, take, drop};
+ghost use Rattle.std.specs.Prelude.{Ok, Some, IsErr, IfSome, IfNone};
 ghost use Rattle.std.specs.Int.Digits.{AllBelowBase};
 ghost use Rattle.std.specs.Simd.Lanes.{number_l};
 ghost use Rattle.pb_schema.specs.Varint.{seven_bits, varint_at};
@@ -18,8 +19,8 @@ const CONTINUATION_BITS: u64 = 0x8080_8080_8080_8080;
 /// exactly where none of at most ten bytes ends there: then [`read_varint`](crate::read_varint) over these bytes tells
 /// the fault, `Cut` or `LongVarint`.
 ///
-/// What follows the first `end` bytes is looked at and doesn't count: where at least eight bytes follow `start`, a value
-/// of at most eight bytes is read with no branch on its length.
+/// What follows the first `end` bytes is looked at and doesn't count: where at least eight bytes follow `start`, a
+/// value of at most eight bytes is read with no branch on its length.
 #[inline]
 pub fn find_value(bytes: &[u8], start: usize, end: usize) -> Option<(u64, usize)>
     requires start { start ≤ end }
@@ -31,12 +32,12 @@ pub fn find_value(bytes: &[u8], start: usize, end: usize) -> Option<(u64, usize)
     find_ahead(bytes, start, end, VALUE_BYTES)
 }
 
-/// The length at `start` in the first `end` bytes, and the place behind it (encoding guide, "Length-Delimited Records").
-/// None exactly where none of at most five bytes ends there, or it is 2^31 or more: the fault is `Cut`, `LongVarint` or
-/// `BadLength`. Whether as many bytes follow isn't asked.
+/// The length at `start` in the first `end` bytes, and the place behind it (encoding guide, "Length-Delimited
+/// Records"). None exactly where none of at most five bytes ends there, or it is 2^31 or more: the fault is `Cut`,
+/// `LongVarint` or `BadLength`. Whether as many bytes follow isn't asked.
 ///
-/// What follows the first `end` bytes is looked at and doesn't count, as in [`find_value`]; a length of one byte is read
-/// first.
+/// What follows the first `end` bytes is looked at and doesn't count, as in [`find_value`]; a length of one byte is
+/// read first.
 #[inline]
 pub fn find_length(bytes: &[u8], start: usize, end: usize) -> Option<(usize, usize)>
     requires start { start ≤ end }
@@ -76,8 +77,8 @@ fn find_ahead(bytes: &[u8], start: usize, end: usize, most: usize) -> Option<(u6
     find_varint(&bytes[..end], start, most)
 }
 
-// The varint of at most 8 bytes at `start`, and how many it has. That can't be foreseen, and a branch on each byte costs
-// more than to take all 8 at once and to clear those behind its end.
+// The varint of at most 8 bytes at `start`, and how many it has. That can't be foreseen, and a branch on each byte
+// costs more than to take all 8 at once and to clear those behind its end.
 #[inline]
 fn read_window(bytes: &[u8], start: usize) -> Option<(u64, usize)>
     requires { start + 8 ≤ length bytes.now }
@@ -104,8 +105,8 @@ fn window_at(bytes: &[u8], start: usize) -> u64
     u64::from_le_bytes(window)
 }
 
-// The number that the low seven bits of the window's bytes spell. Neighbours are joined: first bytes to groups of 14 bits,
-// then these to groups of 28, and then the two that are left.
+// The number that the low seven bits of the window's bytes spell. Neighbours are joined: first bytes to groups of 14
+// bits, then these to groups of 28, and then the two that are left.
 #[inline]
 fn join_groups(window: u64) -> u64
     ensures { (s : List ℕ) → length s ≤ 8 → AllBelowBase 256 s → window ≡ number_l 256 s → result ≡ seven_bits s }

@@ -9,8 +9,8 @@ use pb_schema::{WireFault, WireKind};
 /// The most bytes of a value.
 pub(crate) const VALUE_BYTES: usize = 10;
 
-/// The value at `start`, and the place behind it (encoding guide, "Base 128 Varints"). It has at most ten bytes, of which
-/// bits past the 64th don't count.
+/// The value at `start`, and the place behind it (encoding guide, "Base 128 Varints"). It has at most ten bytes, of
+/// which bits past the 64th don't count.
 ///
 /// The fault stands at `start`: `Cut` where fewer than ten bytes are there and all go on, `LongVarint` where the tenth
 /// goes on.
@@ -26,8 +26,9 @@ pub fn read_varint(bytes: &[u8], start: u32) -> Result<(u64, u32), WireFault>
     }
 }
 
-// What is wrong at `start`, where no varint of at most `most` bytes ends. It is asked for only where `find_varint` found
-// none: a `Result` of a value of 64 bits or a fault goes through memory, and that takes longer than a short varint.
+// What is wrong at `start`, where no varint of at most `most` bytes ends. It is asked for only where `find_varint`
+// found none: a `Result` of a value of 64 bits or a fault goes through memory, and that takes longer than a short
+// varint.
 pub(crate) fn varint_fault(bytes: &[u8], start: u32, most: usize) -> WireFault
     requires start { start ≤ length bytes.now }
     requires none { None ≡ found_from start (varint_at most (drop start bytes.now)) }

@@ -83,8 +83,8 @@ fn put_groups(room: &mut [u8], start: usize, value: u64) -> usize
     start + last + 1
 }
 
-// The shortest varint of a value in the low bytes of a word, and how many bytes it has; the others are 0. How many there
-// are can't be foreseen, and a branch on each costs more than to put all eight.
+// The shortest varint of a value in the low bytes of a word, and how many bytes it has; the others are 0. How many
+// there are can't be foreseen, and a branch on each costs more than to put all eight.
 #[inline]
 fn spelled_word(value: u64) -> (u64, usize)
     requires some { 0 < value }
@@ -98,11 +98,11 @@ fn spelled_word(value: u64) -> (u64, usize)
     (spread_groups(value) + marks, last + 1)
 }
 
-// The groups of seven bits of a value below 2^56, one to a byte. Halves are parted: first two groups of 28 bits, then each
-// of these into groups of 14, and these into the bytes.
+// The groups of seven bits of a value below 2^56, one to a byte. Halves are parted: first two groups of 28 bits, then
+// each of these into groups of 14, and these into the bytes.
 #[inline]
 fn spread_groups(value: u64) -> u64
-    ensures groups { (s : List ℕ) → length s ≡ 8 → AllBelowBase 128 s → value ≡ number_l 128 s → result ≡ number_l 256 s }
+    ensures same { (s : List ℕ) → length s ≡ 8 → AllBelowBase 128 s → value ≡ number_l 128 s → result ≡ number_l 256 s }
     ensures bound { result ≤ 0x7f7f_7f7f_7f7f_7f7f }
 {
     let twenty_eights = value % (1 << 28) + ((value >> 28) << 32);

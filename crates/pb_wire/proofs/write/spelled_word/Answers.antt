@@ -16,7 +16,7 @@ returns-clause-word c =
     let last = c.last_group-last.ensures in
     let few = few_groups c.last_group-last.result c.args.value last.below c.requires.short in
     let count = groups_count c.last_group-last.result c.args.value last.bound last.below last.above in
-    word_spelled c.args.value c.last_group-last.result c.spread_groups.result c.spread_groups.ensures.groups c.requires.short few count
+    word_spelled c.args.value c.last_group-last.result c.spread_groups.result c.spread_groups.ensures.same c.requires.short few count
 
 pub returns-clause-count : goal.returns-clause-count
 returns-clause-count c = let last = c.last_group-last.ensures in groups_count c.last_group-last.result c.args.value last.bound last.below last.above
