@@ -1,7 +1,7 @@
 use Rattle.std.proofs.Common.{arith}
 use Rattle.std.proofs.lemmas.Nat.{leading_top}
-use Rattle.arena_run.proofs.Groups.{group_below, group_above}
-use Rattle.arena_run.proofs.write.last_group.Goals as goal
+use Rattle.pb_wire.proofs.Groups.{group_below, group_above}
+use Rattle.pb_wire.proofs.write.last_group.Goals as goal
 
 pub returns-clause-below : goal.returns-clause-below
 returns-clause-below c =

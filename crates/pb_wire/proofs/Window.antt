@@ -11,8 +11,9 @@ use Rattle.std.proofs.lemmas.Nat.Bits.{and_high}
 use Rattle.pb_schema.specs.Varint.{Varint, seven_bits, varint_bytes, varint_at}
 use Rattle.pb_schema.proofs.Steps.{varint_bytes_last, varint_bytes_more, seven_bits_below}
 use Rattle.pb_schema.proofs.VarintLaws.{varint_at_found, varint_at_exact}
-use Rattle.arena_run.specs.Reading.{moved}
-use Rattle.arena_run.proofs.Reading.{moved_some}
+use Rattle.pb_wire.specs.Placed.{found_from}
+use Rattle.pb_wire.proofs.Reading.{moved_found}
+use Rattle.pb_wire.proofs.Lanes.{and_lanes, zeros_behind}
 
 -- THE BYTES OF A WINDOW
 
@@ -126,17 +127,6 @@ lowest_ones t above =
 
 -- THE GROUPS OF A WINDOW
 
--- what the bits of a mask keep goes by the lane
-and_lanes : (bits mask : ℕ) (kept : ℕ → ℕ) → mask < 2 ^ bits → ((x : ℕ) → bit_and x mask ≡ kept x) → (s : List ℕ) → AllBelowBase (2 ^ bits) s
-    → bit_and (number_l (2 ^ bits) s) (number_l (2 ^ bits) (replicate (length s) mask)) ≡ number_l (2 ^ bits) (map kept s)
-and_lanes bits mask kept small keeps [] h = refl
-and_lanes bits mask kept small keeps (x ∷ s) h =
-    let p = 2 ^ bits in
-    let turn : (a b : ℕ) → a + p * b ≡ b * p + a = λ a b. omega arith in
-    let masks = number_l p (replicate (length s) mask) in
-    (λ i. bit_and (turn x (number_l p s) i) (turn mask masks i)) ∙ and_block bits (number_l p s) masks x mask h.0 small
-    ∙ sym (turn (bit_and x mask) (bit_and (number_l p s) masks)) ∙ (λ i. keeps x i + p * and_lanes bits mask kept small keeps s h.1 i)
-
 -- neighbours joined, three times
 abbrev pub joined : ℕ → ℕ
 joined window =
@@ -237,12 +227,6 @@ join_eight (a ∷ b ∷ c ∷ d ∷ e ∷ f ∷ g ∷ k ∷ []) x l h is =
         ends : (m n y : ℕ) → m < 2 ^ 28 → n < 2 ^ 28 → y ≡ number_l (2 ^ 32) (m ∷ n ∷ []) → y % 2 ^ 32 + y / 2 ^ 32 * 2 ^ 28 % 2 ^ 64 ≡ m + 2 ^ 28 * n
         ends m n y M N is = omega (arith, M, N, is)
 
--- bytes of 0 behind the others spell nothing
-zeros_behind : (s : List ℕ) (k : ℕ) → AllBelowBase 256 s → AllBelowBase 256 (s ++ replicate k 0) × (number_l 256 (s ++ replicate k 0) ≡ number_l 256 s) × (seven_bits (s ++ replicate k 0) ≡ seven_bits s)
-zeros_behind [] zero h = (tt, refl, refl)
-zeros_behind [] (suc k) h = let rest = zeros_behind [] k h in ((omega arith, rest.0), omega (arith, rest.1), omega (arith, rest.2))
-zeros_behind (b ∷ s) k h = let rest = zeros_behind s k h.1 in ((h.0, rest.0), ap (λ n. b + 256 * n) rest.1, ap (λ n. b % 128 + 128 * n) rest.2)
-
 pub join_window : (s : List ℕ) (x : ℕ) → length s ≤ 8 → AllBelowBase 256 s → x ≡ number_l 256 s → joined x ≡ seven_bits s
 join_window s x fits h is =
     let k = 8 - length s in
@@ -304,19 +288,21 @@ window_found s window ends value room byte is_window is_ends some =
 
 -- A VARINT WITHIN BOUNDS
 
--- a varint that ends before some bytes do is theirs too
-pub varint_before : (bytes : List ℕ) (start end v n : ℕ) → varint_at 10 (drop start bytes) ≡ Some (v, n) → n ≤ end - start → start ≤ end → varint_at 10 (drop start (take end bytes)) ≡ Some (v, n)
-varint_before bytes start end v n found fits ordered =
+-- a varint of few bytes, which ends before some bytes do, is theirs too
+varint_before : (bytes : List ℕ) (start end most v n : ℕ) → varint_at 10 (drop start bytes) ≡ Some (v, n) → n ≤ most → n ≤ end - start → start ≤ end → varint_at most (drop start (take end bytes)) ≡ Some (v, n)
+varint_before bytes start end most v n found few fits ordered =
     let s = drop start bytes in
     let whole = varint_at_found 10 s v n found in
     let within : n ≤ length (take (end - start) s) = omega (arith, length-take (end - start) s, whole.0, fits) in
-    let same : take n (take (end - start) s) ≡ take n s = take-take n (end - start) s fits in
-    ap (λ k. varint_at 10 (drop start (take k bytes))) (split start end ordered) ∙ ap (varint_at 10) (drop-take start (end - start) bytes)
-    ∙ varint_at_exact 10 (take (end - start) s) v n (within, subst (λ l. Varint l 10 v) (sym same) whole.1)
+    let same : take n s ≡ take n (take (end - start) s) = sym (take-take n (end - start) s fits) in
+    let spelt : Varint (take n s) most v =
+    record { continued = whole.1.continued; most_bytes = omega (arith, length-take n s, whole.0, few); value = whole.1.value } in
+    ap (λ k. varint_at most (drop start (take k bytes))) (split start end ordered) ∙ ap (varint_at most) (drop-take start (end - start) bytes)
+    ∙ varint_at_exact most (take (end - start) s) v n (within, subst (λ l. Varint l most v) same spelt)
   where
     split : (a b : ℕ) → a ≤ b → b ≡ a + (b - a)
     split a b h = omega (arith, h)
 
-pub window_read : (bytes : List ℕ) (start end v n : ℕ) → varint_at 10 (drop start bytes) ≡ Some (v, n) → n ≤ end - start → start ≤ end → Some (v, start + n) ≡ moved start (varint_at 10 (drop start (take end bytes)))
-window_read bytes start end v n found fits ordered =
-    moved_some (varint_at 10 (drop start (take end bytes))) start v n (start + n) (varint_before bytes start end v n found fits ordered) refl
+pub window_read : (bytes : List ℕ) (start end most v n : ℕ) → varint_at 10 (drop start bytes) ≡ Some (v, n) → n ≤ most → n ≤ end - start → start ≤ end → Some (v, start + n) ≡ found_from start (varint_at most (drop start (take end bytes)))
+window_read bytes start end most v n found few fits ordered =
+    moved_found start most (drop start (take end bytes)) v n (start + n) (varint_before bytes start end most v n found few fits ordered) refl

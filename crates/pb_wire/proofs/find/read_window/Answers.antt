@@ -1,7 +1,7 @@
 use Rattle.std.proofs.Common.{◌+◌, ◌-◌, ◌^◌, bit_and, drop, length-drop, refl, arith}
 use Rattle.std.proofs.lemmas.List.{get_or-drop}
-use Rattle.arena_run.proofs.Window.{window_found}
-use Rattle.arena_run.proofs.wire.read_window.Goals as goal
+use Rattle.pb_wire.proofs.Window.{window_found}
+use Rattle.pb_wire.proofs.find.read_window.Goals as goal
 
 pub returns : goal.returns
 returns c =
