@@ -1,12 +1,14 @@
 -- Maps made of entries in order, no two of which have one key.
 use Rattle.std.proofs.Common.{◌≡◌, ℕ, suc, ◌+◌, ◌<◌, Bool, true, false, cond, List, [], ◌∷◌, ◌++◌, length, get_or, Option, Some, None, Ordering, ⊎_elim, refl, sym, ap, subst, ◌∙◌, arith}
-use Rattle.std.specs.Prelude.{IsSome, is_some, map}
+use Rattle.std.specs.Prelude.{IsSome, is_some, map, sum_by}
 use Rattle.std.specs.Option.{option_map}
 use Rattle.std.specs.Ordering.{eq_by_cmp, is_eq}
 use Rattle.std.specs.declared.cmp.Ordering.TheVariants.{Less, Equal, Greater}
 use Rattle.std.specs.Cmp.{IsTotalOrder}
-use Rattle.std.specs.FinMap.{FinMap, IsAntisymmetric, find, get, insert, from_entries, len, get-insert, get-from_entries, same_map, from_entries_push, len-insert, len-empty}
+use Rattle.std.specs.FinMap.Entries.{by_order}
+use Rattle.std.specs.FinMap.{FinMap, IsAntisymmetric, find, put, get, insert, remove, keys, entries, empty, from_entries, len, len-entries, get-insert, get-remove, get-entries, get-from_entries, entries-insert, same_map, from_entries_push, len-insert, len-empty}
 use Rattle.std.proofs.lemmas.Cmp.{tied_itself}
+use Rattle.std.proofs.lemmas.List.Sums.{sum_by-cons}
 use Rattle.std.proofs.lemmas.Bool.{false≢true, false_from_ne_true, cases_Bool}
 use Rattle.std.proofs.lemmas.Option.{none-some, same_Some}
 
@@ -121,3 +123,67 @@ module _ {K V : Type 0} {R : K → K → Ordering} (o : IsTotalOrder R) (same : 
       let new : get (from_entries {R = R} es) e.0 ≡ None = get_fresh es e.0 (λ i l h. distinct 0 (suc i) (omega arith) (omega (arith, l)) (sym h)) in
       len-insert o (from_entries es) e.0 e.1 ∙ ap (λ r. cond (is_some r) (len (from_entries {R = R} es)) (len (from_entries {R = R} es) + 1)) new
       ∙ ap (λ n. n + 1) (len_all es (λ i j l h. distinct (suc i) (suc j) (omega (arith, l)) (omega (arith, h)))) ∙ omega arith
+
+-- ---- sums over the keys
+abbrev pub key_sum : {K V : Type 0} {R : K → K → Ordering} → (K → ℕ) → FinMap R V → ℕ
+key_sum f m = sum_by f (keys m)
+
+module _ {K V : Type 0} (R : K → K → Ordering) (f : K → ℕ) (k : K) (v : V) where
+  -- one entry more, in its place, adds its own term
+  sum-put : (es : List (K × V)) → find R k es ≡ None → sum_by f (map (λ e. e.0) (put R k v es)) ≡ sum_by f (map (λ e. e.0) es) + f k
+  sum-put [] none = refl
+  sum-put (e ∷ es) none =
+      elim (R k e.0) as (λ r. cond (is_eq r) (Some e.1) (find R k es) ≡ None → sum_by f (map (λ e. e.0) (by_order r ((k, v) ∷ e ∷ es) ((e.0, v) ∷ es) (e ∷ put R k v es))) ≡ sum_by f (map (λ e. e.0) (e ∷ es)) + f k) [
+        | Less ↦ λ _. omega (arith, sum_by-cons f k (map (λ e. e.0) (e ∷ es)))
+        | Equal ↦ λ some. absurd (none-some e.1 (sym some))
+        | Greater ↦ λ rest. omega (arith, sum_by-cons f e.0 (map (λ e. e.0) (put R k v es)), sum_by-cons f e.0 (map (λ e. e.0) es), sum-put es rest)
+      ] none
+
+no_length : {X : Type 0} (es : List X) → length es ≡ 0 → es ≡ []
+no_length [] e = refl
+no_length (x ∷ es) e = absurd (omega arith)
+
+pub no_entries : {K V : Type 0} (R : K → K → Ordering) → entries (empty {X = V} {R = R}) ≡ []
+no_entries {V = V} R = no_length _ (sym (len-entries (empty {X = V} {R = R})) ∙ len-empty R V)
+
+-- a test that is repeated
+shadowed : {X : Type 0} (b : Bool) (x y z : X) → cond b x (cond b y z) ≡ cond b x z
+shadowed true x y z = refl
+shadowed false x y z = refl
+
+module _ {K V : Type 0} {R : K → K → Ordering} (o : IsTotalOrder R) (same : IsAntisymmetric R) (f : K → ℕ) where
+  pub key_sum-new : (m : FinMap R V) (k : K) (v : V) → get m k ≡ None → key_sum f (insert m k v) ≡ key_sum f m + f k
+  key_sum-new m k v none = ap (λ es. sum_by f (map (λ e. e.0) es)) (entries-insert o m k v) ∙ sum-put R f k v (entries m) (sym (get-entries m k) ∙ none)
+
+  -- the map without the key, and then with it
+  put_back : (m : FinMap R V) (k : K) (v : V) → insert (remove m k) k v ≡ insert m k v
+  put_back m k v = same_map o same _ _ (λ q.
+      get-insert o (remove m k) k v q ∙ ap (cond (eq_by_cmp R q k) (Some v)) (get-remove o m k q)
+      ∙ shadowed (eq_by_cmp R q k) (Some v) None (get m q) ∙ sym (get-insert o m k v q))
+
+  pub same_again : (m : FinMap R V) (k : K) (v : V) → get m k ≡ Some v → insert m k v ≡ m
+  same_again m k v some = same_map o same _ _ (λ q. ⊎_elim
+      (λ t. get-insert o m k v q ∙ ap (λ b. cond b (Some v) (get m q)) t ∙ sym some ∙ ap (get m) (sym (one_key same q k t)))
+      (λ f. get-insert o m k v q ∙ ap (λ b. cond b (Some v) (get m q)) f)
+      (cases_Bool (eq_by_cmp R q k)))
+
+  -- another value at a key that is there
+  pub key_sum-old : (m : FinMap R V) (k : K) (v was : V) → get m k ≡ Some was → key_sum f (insert m k v) ≡ key_sum f m
+  key_sum-old m k v was some =
+      let without : get (remove m k) k ≡ None = get-remove o m k k ∙ ap (λ b. cond b None (get m k)) (same_key o k k refl) in
+      ap (key_sum f) (sym (put_back m k v)) ∙ key_sum-new (remove m k) k v without
+      ∙ sym (key_sum-new (remove m k) k was without) ∙ ap (key_sum f) (put_back m k was ∙ same_again m k was some)
+
+  -- two values at one key: the later one counts
+  pub insert_again : (m : FinMap R V) (k : K) (v w : V) → insert (insert m k v) k w ≡ insert m k w
+  insert_again m k v w = same_map o same _ _ (λ q.
+      get-insert o (insert m k v) k w q ∙ ap (cond (eq_by_cmp R q k) (Some w)) (get-insert o m k v q)
+      ∙ shadowed (eq_by_cmp R q k) (Some w) (Some v) (get m q) ∙ sym (get-insert o m k w q))
+
+  -- of entries no two of which have one key
+  pub key_sum_all : (d : K × V) (es : List (K × V)) → AreDistinct d es → key_sum f (from_entries {R = R} es) ≡ sum_by f (map (λ e. e.0) es)
+  key_sum_all d [] distinct = ap (λ es. sum_by f (map (λ e. e.0) es)) (no_entries R)
+  key_sum_all d (e ∷ es) distinct =
+      let new : get (from_entries {R = R} es) e.0 ≡ None = get_fresh o same d es e.0 (λ i l h. distinct 0 (suc i) (omega arith) (omega (arith, l)) (sym h)) in
+      key_sum-new (from_entries es) e.0 e.1 new
+      ∙ omega (arith, sum_by-cons f e.0 (map (λ e. e.0) es), key_sum_all d es (λ i j l h. distinct (suc i) (suc j) (omega (arith, l)) (omega (arith, h))))
