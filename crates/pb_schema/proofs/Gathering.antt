@@ -13,7 +13,7 @@ use Rattle.pb_schema.specs.declared.schema.MessageType.{MessageType}
 use Rattle.pb_schema.specs.declared.wire_fault.WireKind.TheVariants.{NotUtf8, TooDeep}
 use Rattle.pb_schema.specs.declared.wire_fault.WireFault.{WireFault}
 use Rattle.pb_schema.specs.Reads.{fault, value_read}
-use Rattle.pb_schema.specs.Kinds.{Coding, Shape, Scalar, Characters, Octets, Nested, shape_of, wire_of, is_number, low_32, truth, unzigzag}
+use Rattle.pb_schema.specs.Kinds.{Coding, ValueType, Scalar, Characters, Octets, Nested, value_type_of, wire_of, is_number, low_32, truth, unzigzag}
 use Rattle.pb_schema.specs.Fits.{fits, fields_of, is_repeated, contents_in, contents_of}
 use Rattle.pb_schema.specs.Form.{read_scalar}
 use Rattle.pb_schema.specs.Walk.{read_contents, deeper_left}
@@ -28,86 +28,7 @@ use Rattle.pb_schema.proofs.FormLaws.{not_ok, read_bytes_ok}
 use Rattle.pb_schema.proofs.WalkSteps.{walk_left_is}
 use Rattle.pb_schema.proofs.SoundRecords.{Finds, Each, Holds, walk_sound, sound_walk, sound_join, deeper_is}
 
--- NUMBERS
-
--- how many numbers a value of a wire type spells
-abbrev most_of : ℕ → ℕ
-most_of zero = 2 ^ 64
-most_of (suc zero) = 2 ^ 64
-most_of (suc (suc wire)) = 2 ^ 32
-
--- as many bytes as a value of the wire type has
-abbrev IsSized : ℕ → List ℕ → Type 0
-IsSized zero s = Unit {0}
-IsSized (suc zero) s = length s ≡ 8
-IsSized (suc (suc wire)) s = length s ≡ 4
-
-little_below : (s : List ℕ) → little_endian s < 256 ^ length s
-little_below [] = omega arith
-little_below (b ∷ s) = omega (arith, pow-suc 256 (length s), little_below s)
-
-number_below : (wire : ℕ) (s : List ℕ) → IsSized wire s → number_in wire s < most_of wire
-number_below zero s p = omega arith
-number_below (suc zero) s p = subst (λ n. little_endian s < 256 ^ n) p (little_below s)
-number_below (suc (suc wire)) s p = subst (λ n. little_endian s < 256 ^ n) p (little_below s)
-
-front_below : (wire : ℕ) (s : List ℕ) (n : ℕ) → read_scalar wire 0 s ≡ Ok n → number_in wire (take n s) < most_of wire
-front_below zero s n e = omega arith
-front_below (suc zero) s n e = read_bytes_ok 8 0 s n e λ same fits. number_below 1 (take n s) (length-take-le n s (omega (arith, same, fits)) ∙ sym same)
-front_below (suc (suc zero)) s n e = let same : 0 ≡ n = cc in subst (λ k. number_in 2 (take k s) < 2 ^ 32) same (omega arith)
-front_below (suc (suc (suc zero))) s n e = let same : 0 ≡ n = cc in subst (λ k. number_in 3 (take k s) < 2 ^ 32) same (omega arith)
-front_below (suc (suc (suc (suc zero)))) s n e = let same : 0 ≡ n = cc in subst (λ k. number_in 4 (take k s) < 2 ^ 32) same (omega arith)
-front_below (suc (suc (suc (suc (suc zero))))) s n e = read_bytes_ok 4 0 s n e λ same fits. number_below 5 (take n s) (length-take-le n s (omega (arith, same, fits)) ∙ sym same)
-front_below (suc (suc (suc (suc (suc (suc wire)))))) s n e = let same : 0 ≡ n = cc in subst (λ k. number_in 6 (take k s) < 2 ^ 32) same (omega arith)
-
--- what the table of kinds says of numbers
-abbrev ScalarFacts : Shape → Type 0
-ScalarFacts (Scalar coding) = (coding.wire ≢ 2) × (coding.wire ≢ 3) × ((v : ℕ) → v < most_of coding.wire → coding.kept v < coding.patterns)
-ScalarFacts Characters = Unit {0}
-ScalarFacts Octets = Unit {0}
-ScalarFacts (Nested type_no) = Unit {0}
-
-truth_below : (v : ℕ) → truth v < 2
-truth_below v = cases (eqb v 0)
-  where
-    cases : (t : Bool) → cond t 0 1 < 2
-    cases true = omega arith
-    cases false = omega arith
-
-unzigzag_below : (patterns v : ℕ) → v < patterns → unzigzag patterns v < patterns
-unzigzag_below patterns v h = cases (eqb (v % 2) 0) refl
-  where
-    cases : (t : Bool) → eqb (v % 2) 0 ≡ t → cond t (v / 2) (patterns - (v + 1) / 2) < patterns
-    cases true e = omega (arith, h)
-    cases false e = let odd : v % 2 ≢ 0 = λ z. absurd (false≢true (sym e ∙ eq-eqb (v % 2) 0 z)) in omega (arith, h, odd)
-
-low_below : (v : ℕ) → low_32 v < 2 ^ 32
-low_below v = omega arith
-
-scalar_facts : (kind : Kind) → ScalarFacts (shape_of kind)
-scalar_facts kinds.Double = (λ e. absurd (omega (arith, e)), λ e. absurd (omega (arith, e)), λ v h. h)
-scalar_facts kinds.Float = (λ e. absurd (omega (arith, e)), λ e. absurd (omega (arith, e)), λ v h. h)
-scalar_facts kinds.Int64 = (λ e. absurd (omega (arith, e)), λ e. absurd (omega (arith, e)), λ v h. h)
-scalar_facts kinds.UInt64 = (λ e. absurd (omega (arith, e)), λ e. absurd (omega (arith, e)), λ v h. h)
-scalar_facts kinds.Int32 = (λ e. absurd (omega (arith, e)), λ e. absurd (omega (arith, e)), λ v h. low_below v)
-scalar_facts kinds.Fixed64 = (λ e. absurd (omega (arith, e)), λ e. absurd (omega (arith, e)), λ v h. h)
-scalar_facts kinds.Fixed32 = (λ e. absurd (omega (arith, e)), λ e. absurd (omega (arith, e)), λ v h. h)
-scalar_facts kinds.Bool = (λ e. absurd (omega (arith, e)), λ e. absurd (omega (arith, e)), λ v h. truth_below v)
-scalar_facts kinds.Text = tt
-scalar_facts (kinds.Message type_no) = tt
-scalar_facts kinds.Bytes = tt
-scalar_facts kinds.UInt32 = (λ e. absurd (omega (arith, e)), λ e. absurd (omega (arith, e)), λ v h. low_below v)
-scalar_facts kinds.Enumeration = (λ e. absurd (omega (arith, e)), λ e. absurd (omega (arith, e)), λ v h. low_below v)
-scalar_facts kinds.SFixed32 = (λ e. absurd (omega (arith, e)), λ e. absurd (omega (arith, e)), λ v h. h)
-scalar_facts kinds.SFixed64 = (λ e. absurd (omega (arith, e)), λ e. absurd (omega (arith, e)), λ v h. h)
-scalar_facts kinds.SInt32 = (λ e. absurd (omega (arith, e)), λ e. absurd (omega (arith, e)), λ v h. unzigzag_below (2 ^ 32) (low_32 v) (low_below v))
-scalar_facts kinds.SInt64 = (λ e. absurd (omega (arith, e)), λ e. absurd (omega (arith, e)), λ v h. unzigzag_below (2 ^ 64) v h)
-
-no_start : (shape : Shape) → ScalarFacts shape → wire_of shape ≢ 3
-no_start (Scalar coding) p = p.1
-no_start Characters p = λ e. absurd (omega (arith, e))
-no_start Octets p = λ e. absurd (omega (arith, e))
-no_start (Nested type_no) p = λ e. absurd (omega (arith, e))
+-- RECORDS THAT A FIELD TAKES
 
 -- the value of a record by itself
 spelled_size : (A : List ℕ → Type 0) (number wire : ℕ) (payload behind : List ℕ) → Spells A number wire payload behind → wire ≢ 2 → wire ≢ 3 → IsSized wire payload
@@ -121,15 +42,15 @@ spelled_size A number (suc (suc (suc (suc (suc (suc wire)))))) payload behind p 
 
 -- RECORDS THAT A FIELD TAKES
 
--- a record that fits a field of this shape, which is a list or not, and holds what the field takes
-pub record Taken (types : List MessageType) (left : ℕ) (shape : Shape) (repeated : Bool) (r : Record) : Type 0 where
-  pub wire : (r.wire ≡ wire_of shape) ⊎ ((r.wire ≡ 2) × (repeated ≡ true))
+-- a record that fits a field of this type, which is a list or not, and holds what the field takes
+pub record Taken (types : List MessageType) (left : ℕ) (type : ValueType) (repeated : Bool) (r : Record) : Type 0 where
+  pub wire : (r.wire ≡ wire_of type) ⊎ ((r.wire ≡ 2) × (repeated ≡ true))
   pub is : IsRecord (AreRecords left) r
-  pub holds : (tag : ℕ) × (at : ℕ) × Finds (read_contents types (deeper_left types left) tag at r.payload (contents_in shape r.wire))
+  pub holds : (tag : ℕ) × (at : ℕ) × Finds (read_contents types (deeper_left types left) tag at r.payload (contents_in type r.wire))
 
 -- the first field that fits a record is this one
 abbrev pub Own : List FieldType → FieldType → Type 0
-Own all field = (number wire : ℕ) → fits field number wire ≡ true → contents_of all number wire ≡ contents_in (shape_of field.kind) wire
+Own all field = (number wire : ℕ) → fits field number wire ≡ true → contents_of all number wire ≡ contents_in (value_type_of field.kind) wire
 
 abbrev pub EachField : (FieldType → Type 0) → List FieldType → Type 0
 EachField P [] = Unit {0}
@@ -139,17 +60,17 @@ each_field : (P Q R : FieldType → Type 0) (fields : List FieldType) → ((fiel
 each_field P Q R [] f p q = tt
 each_field P Q R (field ∷ fields) f p q = (f field p.0 q.0, each_field P Q R fields f p.1 q.1)
 
-fits_parts : (field : FieldType) (number wire : ℕ) → fits field number wire ≡ true → (field.number ≡ number) × ((wire ≡ wire_of (shape_of field.kind)) ⊎ ((wire ≡ 2) × (is_repeated field.card ≡ true)))
+fits_parts : (field : FieldType) (number wire : ℕ) → fits field number wire ≡ true → (field.number ≡ number) × ((wire ≡ wire_of (value_type_of field.kind)) ⊎ ((wire ≡ 2) × (is_repeated field.card ≡ true)))
 fits_parts field number wire e =
-    let own = eqb wire (wire_of (shape_of field.kind)) in
-    let two = eqb wire 2 && is_number (shape_of field.kind) in
+    let own = eqb wire (wire_of (value_type_of field.kind)) in
+    let two = eqb wire 2 && is_number (value_type_of field.kind) in
     let first = and_parts (eqb field.number number) (own || (two && is_repeated field.card)) e in (
       eqb-true field.number number first.0,
       ⊎_elim
-          (λ (p : own ≡ true). inl (eqb-true wire (wire_of (shape_of field.kind)) p))
+          (λ (p : own ≡ true). inl (eqb-true wire (wire_of (value_type_of field.kind)) p))
           (λ (p : (two && is_repeated field.card) ≡ true).
           let parts = and_parts two (is_repeated field.card) p in
-          let more = and_parts (eqb wire 2) (is_number (shape_of field.kind)) parts.0 in
+          let more = and_parts (eqb wire 2) (is_number (value_type_of field.kind)) parts.0 in
           inr (eqb-true wire 2 more.0, parts.1))
           (or_cases own (two && is_repeated field.card) first.1),
     )
@@ -162,7 +83,7 @@ no_group_fits field number = cases (fits field number 3) refl
     cases false e = refl
     cases true e =
         ⊎_elim
-        (λ (p : 3 ≡ wire_of (shape_of field.kind)). absurd (no_start (shape_of field.kind) (scalar_facts field.kind) (sym p)))
+        (λ (p : 3 ≡ wire_of (value_type_of field.kind)). absurd (no_start (value_type_of field.kind) (scalar_facts field.kind) (sym p)))
         (λ (p : (3 ≡ 2) × (is_repeated field.card ≡ true)). absurd (omega (arith, p.0)))
         (fits_parts field number 3 e).1
 
@@ -194,10 +115,10 @@ owns least (field ∷ fields) p = (
 abbrev pub Base : List MessageType → ℕ → List FieldType → Record → Type 0
 Base types left all r = IsRecord (AreRecords left) r × Holds types left all r
 
-taken : (types : List MessageType) (left : ℕ) (all : List FieldType) (field : FieldType) (r : Record) → Own all field → Base types left all r → fits field r.number r.wire ≡ true → Taken types left (shape_of field.kind) (is_repeated field.card) r
+taken : (types : List MessageType) (left : ℕ) (all : List FieldType) (field : FieldType) (r : Record) → Own all field → Base types left all r → fits field r.number r.wire ≡ true → Taken types left (value_type_of field.kind) (is_repeated field.card) r
 taken types left all field r own base e =
     let parts = fits_parts field r.number r.wire e in
-    let other : r.wire ≢ 3 = λ three. ⊎_elim (λ (p : r.wire ≡ wire_of (shape_of field.kind)). no_start (shape_of field.kind) (scalar_facts field.kind) (sym p ∙ three)) (λ (p : (r.wire ≡ 2) × (is_repeated field.card ≡ true)). absurd (omega (arith, three, p.0))) parts.1 in
+    let other : r.wire ≢ 3 = λ three. ⊎_elim (λ (p : r.wire ≡ wire_of (value_type_of field.kind)). no_start (value_type_of field.kind) (scalar_facts field.kind) (sym p ∙ three)) (λ (p : (r.wire ≡ 2) × (is_repeated field.card ≡ true)). absurd (omega (arith, three, p.0))) parts.1 in
     let holds = base.1 other in
     record {
       wire = parts.1;
@@ -217,27 +138,27 @@ pub each_same : (P Q : Record → Type 0) (rs : List Record) → ((r : Record) �
 each_same P Q [] f p = tt
 each_same P Q (r ∷ rs) f p = (f r p.0, each_same P Q rs f p.1)
 
-fitting_taken : (types : List MessageType) (left : ℕ) (all : List FieldType) (field : FieldType) (rs : List Record) → Own all field → Each (Base types left all) rs → Each (Taken types left (shape_of field.kind) (is_repeated field.card)) (fitting field rs)
+fitting_taken : (types : List MessageType) (left : ℕ) (all : List FieldType) (field : FieldType) (rs : List Record) → Own all field → Each (Base types left all) rs → Each (Taken types left (value_type_of field.kind) (is_repeated field.card)) (fitting field rs)
 fitting_taken types left all field rs own p =
-    each_same (λ r. Base types left all r × (fits field r.number r.wire ≡ true)) (Taken types left (shape_of field.kind) (is_repeated field.card)) (fitting field rs) (λ r q. taken types left all field r own q.0 q.1)
+    each_same (λ r. Base types left all r × (fits field r.number r.wire ≡ true)) (Taken types left (value_type_of field.kind) (is_repeated field.card)) (fitting field rs) (λ r q. taken types left all field r own q.0 q.1)
     (each_filter (Base types left all) (λ r. fits field r.number r.wire) rs p)
 
 -- the records of a run
-all_taken : (types : List MessageType) (left : ℕ) (all : List FieldType) (field : FieldType) (rs : List Record) → Own all field → Each (Base types left all) rs → list_all (λ r. fits field r.number r.wire) rs ≡ true → Each (Taken types left (shape_of field.kind) (is_repeated field.card)) rs
+all_taken : (types : List MessageType) (left : ℕ) (all : List FieldType) (field : FieldType) (rs : List Record) → Own all field → Each (Base types left all) rs → list_all (λ r. fits field r.number r.wire) rs ≡ true → Each (Taken types left (value_type_of field.kind) (is_repeated field.card)) rs
 all_taken types left all field [] own p e = tt
 all_taken types left all field (r ∷ rs) own p e =
     let parts = and_parts (fits field r.number r.wire) (list_all (λ r. fits field r.number r.wire) rs) e in
     (taken types left all field r own p.0 parts.0, all_taken types left all field rs own p.1 parts.1)
 
-run_taken : (types : List MessageType) (left : ℕ) (all : List FieldType) (field : FieldType) (rs : List Record) → Own all field → Each (Base types left all) rs → Each (Taken types left (shape_of field.kind) (is_repeated field.card)) (last_run field rs)
+run_taken : (types : List MessageType) (left : ℕ) (all : List FieldType) (field : FieldType) (rs : List Record) → Own all field → Each (Base types left all) rs → Each (Taken types left (value_type_of field.kind) (is_repeated field.card)) (last_run field rs)
 run_taken types left all field [] own p = tt
 run_taken types left all field (r ∷ rs) own p = pick (run_taken types left all field rs own p.1) (list_all (λ q. fits field q.number q.wire) (r ∷ rs)) refl
   where
-    pick : Each (Taken types left (shape_of field.kind) (is_repeated field.card)) (last_run field rs) → (t : Bool) → list_all (λ q. fits field q.number q.wire) (r ∷ rs) ≡ t → Each (Taken types left (shape_of field.kind) (is_repeated field.card)) (cond t (r ∷ rs) (last_run field rs))
+    pick : Each (Taken types left (value_type_of field.kind) (is_repeated field.card)) (last_run field rs) → (t : Bool) → list_all (λ q. fits field q.number q.wire) (r ∷ rs) ≡ t → Each (Taken types left (value_type_of field.kind) (is_repeated field.card)) (cond t (r ∷ rs) (last_run field rs))
     pick more true e = all_taken types left all field (r ∷ rs) own p e
     pick more false e = more
 
-oneof_taken : (types : List MessageType) (left : ℕ) (all : List FieldType) (field : FieldType) (oneof : ℕ) (rs : List Record) → Own all field → Each (Base types left all) rs → Each (Taken types left (shape_of field.kind) (is_repeated field.card)) (last_run field (of_oneof all oneof rs))
+oneof_taken : (types : List MessageType) (left : ℕ) (all : List FieldType) (field : FieldType) (oneof : ℕ) (rs : List Record) → Own all field → Each (Base types left all) rs → Each (Taken types left (value_type_of field.kind) (is_repeated field.card)) (last_run field (of_oneof all oneof rs))
 oneof_taken types left all field oneof rs own p =
     let test : Record → Bool = λ r. list_any (λ field. is_member oneof field.card && fits field r.number r.wire) all in
     run_taken types left all field (of_oneof all oneof rs) own (each_same (λ r. Base types left all r × (test r ≡ true)) (Base types left all) (of_oneof all oneof rs) (λ r q. q.0) (each_filter (Base types left all) test rs p))
@@ -285,12 +206,12 @@ fine_join types (suc left) type_no x y p q =
     let both = sound_walk types left fields 0 (x ++ y) (sound_join types left fields x y first second) in
     (0, 0, (both.0, walk_left_is types left 0 fields None 0 (x ++ y) ∙ both.1))
 
--- what a field holds fits its shape, and is nested no deeper than what is left
-abbrev pub Well : List MessageType → ℕ → Shape → Held → Type 0
-Well types left shape held = HeldFits types shape held × (held_levels held ≤ left)
+-- what a field holds fits its type, and is nested no deeper than what is left
+abbrev pub Well : List MessageType → ℕ → ValueType → Held → Type 0
+Well types left type held = HeldFits types type held × (held_levels held ≤ left)
 
-nothing_well : (types : List MessageType) (left : ℕ) (shape : Shape) → Well types left shape Nothing
-nothing_well types left shape = (tt, omega arith)
+nothing_well : (types : List MessageType) (left : ℕ) (type : ValueType) → Well types left type Nothing
+nothing_well types left type = (tt, omega arith)
 
 abbrev LastIs : (Record → Type 0) → Option Record → Type 0
 LastIs P None = Unit {0}
@@ -301,16 +222,16 @@ last_is P [] p = tt
 last_is P (r ∷ []) p = p.0
 last_is P (r ∷ q ∷ rs) p = last_is P (q ∷ rs) p.1
 
-last_well : (types : List MessageType) (left : ℕ) (shape : Shape) (P : Record → Type 0) (value : Record → Value) (rs : List Record) → Each P rs → ((r : Record) → P r → Well types left shape (One (value r))) → Well types left shape (last_held value rs)
-last_well types left shape P value rs p f = cases (last_of rs) (last_is P rs p)
+last_well : (types : List MessageType) (left : ℕ) (type : ValueType) (P : Record → Type 0) (value : Record → Value) (rs : List Record) → Each P rs → ((r : Record) → P r → Well types left type (One (value r))) → Well types left type (last_held value rs)
+last_well types left type P value rs p f = cases (last_of rs) (last_is P rs p)
   where
-    cases : (o : Option Record) → LastIs P o → Well types left shape (elim o [ None ↦ Nothing | Some r ↦ One (value r) ])
-    cases None q = nothing_well types left shape
+    cases : (o : Option Record) → LastIs P o → Well types left type (elim o [ None ↦ Nothing | Some r ↦ One (value r) ])
+    cases None q = nothing_well types left type
     cases (Some r) q = f r q
 
 -- a single record has the wire type of its kind
-alone_wire : (r : Record) (shape : Shape) → (r.wire ≡ wire_of shape) ⊎ ((r.wire ≡ 2) × (false ≡ true)) → r.wire ≡ wire_of shape
-alone_wire r shape p = ⊎_elim (λ (a : r.wire ≡ wire_of shape). a) (λ (b : (r.wire ≡ 2) × (false ≡ true)). absurd (false≢true b.1)) p
+alone_wire : (r : Record) (type : ValueType) → (r.wire ≡ wire_of type) ⊎ ((r.wire ≡ 2) × (false ≡ true)) → r.wire ≡ wire_of type
+alone_wire r type p = ⊎_elim (λ (a : r.wire ≡ wire_of type). a) (λ (b : (r.wire ≡ 2) × (false ≡ true)). absurd (false≢true b.1)) p
 
 text_holds : (at : ℕ) (s : List ℕ) (b : Bool) → Finds (cond b (Ok at) (fault NotUtf8 at)) → b ≡ true
 text_holds at s true found = refl
@@ -323,7 +244,7 @@ messages_fine : (types : List MessageType) (left : ℕ) (repeated : Bool) (type_
 messages_fine types left repeated type_no r [] p = subst (Fine types left type_no) (sym (append-nil r.payload)) (message_fine types left repeated type_no r p.0)
 messages_fine types left repeated type_no r (q ∷ rs) p = fine_join types left type_no r.payload (payloads_of (q ∷ rs)) (message_fine types left repeated type_no r p.0) (messages_fine types left repeated type_no q rs p.1)
 
-single_well : (types : List MessageType) (left : ℕ) (nest : Nest) → NestFits types left nest → (shape : Shape) → ScalarFacts shape → (rs : List Record) → Each (Taken types left shape false) rs → Well types left shape (single nest shape rs)
+single_well : (types : List MessageType) (left : ℕ) (nest : Nest) → NestFits types left nest → (type : ValueType) → ScalarFacts type → (rs : List Record) → Each (Taken types left type false) rs → Well types left type (single nest type rs)
 single_well types left nest fine (Scalar coding) facts rs p = last_well types left (Scalar coding) (Taken types left (Scalar coding) false) (λ r. Number (coding.kept (number_in coding.wire r.payload))) rs p λ r q.
     let wire : r.wire ≡ coding.wire = alone_wire r (Scalar coding) q.wire in
     let sized = spelled_size (AreRecords left) r.number coding.wire r.payload q.is.1 (subst (λ w. Spells (AreRecords left) r.number w r.payload q.is.1) wire q.is.3) facts.0 facts.1 in
@@ -335,17 +256,17 @@ single_well types left nest fine (Nested type_no) facts [] p = (tt, omega arith)
 single_well types left nest fine (Nested type_no) facts (r ∷ rs) p = fine type_no (payloads_of (r ∷ rs)) (messages_fine types left false type_no r rs p)
 
 -- the values of a list
-abbrev EachValue : List MessageType → ℕ → Shape → List Value → Type 0
-EachValue types left shape [] = Unit {0}
-EachValue types left shape (v ∷ vs) = (ValueFits types shape v × (value_levels v ≤ left)) × EachValue types left shape vs
+abbrev EachValue : List MessageType → ℕ → ValueType → List Value → Type 0
+EachValue types left type [] = Unit {0}
+EachValue types left type (v ∷ vs) = (ValueFits types type v × (value_levels v ≤ left)) × EachValue types left type vs
 
-values_join : (types : List MessageType) (left : ℕ) (shape : Shape) (xs ys : List Value) → EachValue types left shape xs → EachValue types left shape ys → EachValue types left shape (xs ++ ys)
-values_join types left shape [] ys p q = q
-values_join types left shape (x ∷ xs) ys p q = (p.0, values_join types left shape xs ys p.1 q)
+values_join : (types : List MessageType) (left : ℕ) (type : ValueType) (xs ys : List Value) → EachValue types left type xs → EachValue types left type ys → EachValue types left type (xs ++ ys)
+values_join types left type [] ys p q = q
+values_join types left type (x ∷ xs) ys p q = (p.0, values_join types left type xs ys p.1 q)
 
-values_fit : (types : List MessageType) (left : ℕ) (shape : Shape) (vs : List Value) → EachValue types left shape vs → ValuesFit types shape (value_list vs) × (values_levels (value_list vs) ≤ left)
-values_fit types left shape [] p = (tt, omega arith)
-values_fit types left shape (v ∷ vs) p = let rest = values_fit types left shape vs p.1 in ((p.0.0, rest.0), omega (arith, p.0.1, rest.1))
+values_fit : (types : List MessageType) (left : ℕ) (type : ValueType) (vs : List Value) → EachValue types left type vs → ValuesFit types type (value_list vs) × (values_levels (value_list vs) ≤ left)
+values_fit types left type [] p = (tt, omega arith)
+values_fit types left type (v ∷ vs) p = let rest = values_fit types left type vs p.1 in ((p.0.0, rest.0), omega (arith, p.0.1, rest.1))
 
 numbers_fit : (types : List MessageType) (left : ℕ) (coding : Coding) → ScalarFacts (Scalar coding) → (skip : ℕ) (s : List ℕ) → EachValue types left (Scalar coding) (map (λ v. Number (coding.kept v)) (numbers_from coding.wire skip s))
 numbers_fit types left coding facts skip [] = tt
@@ -356,15 +277,15 @@ numbers_fit types left coding facts zero (b ∷ s) = cases (λ n. numbers_fit ty
     cases more (Ok n) e = ((facts.2 (number_in coding.wire (take n (b ∷ s))) (front_below coding.wire (b ∷ s) n e), omega arith), more n)
     cases more (Err d) e = tt
 
-record_values : (types : List MessageType) (left : ℕ) (nest : Nest) → NestFits types left nest → (shape : Shape) → ScalarFacts shape → (r : Record) → Taken types left shape true r → EachValue types left shape (values_in nest shape r)
+record_values : (types : List MessageType) (left : ℕ) (nest : Nest) → NestFits types left nest → (type : ValueType) → ScalarFacts type → (r : Record) → Taken types left type true r → EachValue types left type (values_in nest type r)
 record_values types left nest fine (Scalar coding) facts r p = numbers_fit types left coding facts 0 r.payload
 record_values types left nest fine Characters facts r p = ((text_holds p.holds.1 r.payload (is_utf8 r.payload) p.holds.2, omega arith), tt)
 record_values types left nest fine Octets facts r p = ((tt, omega arith), tt)
 record_values types left nest fine (Nested type_no) facts r p = (fine type_no r.payload (message_fine types left true type_no r p), tt)
 
-all_values : (types : List MessageType) (left : ℕ) (nest : Nest) → NestFits types left nest → (shape : Shape) → ScalarFacts shape → (rs : List Record) → Each (Taken types left shape true) rs → EachValue types left shape (flat_map (values_in nest shape) rs)
-all_values types left nest fine shape facts [] p = tt
-all_values types left nest fine shape facts (r ∷ rs) p = values_join types left shape (values_in nest shape r) (flat_map (values_in nest shape) rs) (record_values types left nest fine shape facts r p.0) (all_values types left nest fine shape facts rs p.1)
+all_values : (types : List MessageType) (left : ℕ) (nest : Nest) → NestFits types left nest → (type : ValueType) → ScalarFacts type → (rs : List Record) → Each (Taken types left type true) rs → EachValue types left type (flat_map (values_in nest type) rs)
+all_values types left nest fine type facts [] p = tt
+all_values types left nest fine type facts (r ∷ rs) p = values_join types left type (values_in nest type r) (flat_map (values_in nest type) rs) (record_values types left nest fine type facts r p.0) (all_values types left nest fine type facts rs p.1)
 
 -- CARDS
 
@@ -377,14 +298,14 @@ last_not_many : (value : Record → Value) (o : Option Record) → NotMany (elim
 last_not_many value None = tt
 last_not_many value (Some r) = tt
 
-single_not_many : (nest : Nest) (shape : Shape) (rs : List Record) → NotMany (single nest shape rs)
+single_not_many : (nest : Nest) (type : ValueType) (rs : List Record) → NotMany (single nest type rs)
 single_not_many nest (Scalar coding) rs = last_not_many (λ r. Number (coding.kept (number_in coding.wire r.payload))) (last_of rs)
 single_not_many nest Characters rs = last_not_many (λ r. Bytes r.payload) (last_of rs)
 single_not_many nest Octets rs = last_not_many (λ r. Bytes r.payload) (last_of rs)
 single_not_many nest (Nested type_no) [] = tt
 single_not_many nest (Nested type_no) (r ∷ rs) = tt
 
-single_none : (nest : Nest) (shape : Shape) → single nest shape [] ≡ Nothing
+single_none : (nest : Nest) (type : ValueType) → single nest type [] ≡ Nothing
 single_none nest (Scalar coding) = refl
 single_none nest Characters = refl
 single_none nest Octets = refl
@@ -402,14 +323,14 @@ implicit_held (One (Bytes (b ∷ s))) p = not_nil b s
 implicit_held (One (Sub t)) p = tt
 implicit_held (Many _) p = absurd p
 
-implicit_well : (types : List MessageType) (left : ℕ) (shape : Shape) (held : Held) → Well types left shape held → Well types left shape (unless_default held)
-implicit_well types left shape Nothing p = p
-implicit_well types left shape (One (Number zero)) p = nothing_well types left shape
-implicit_well types left shape (One (Number (suc n))) p = p
-implicit_well types left shape (One (Bytes [])) p = nothing_well types left shape
-implicit_well types left shape (One (Bytes (b ∷ s))) p = p
-implicit_well types left shape (One (Sub t)) p = p
-implicit_well types left shape (Many _) p = p
+implicit_well : (types : List MessageType) (left : ℕ) (type : ValueType) (held : Held) → Well types left type held → Well types left type (unless_default held)
+implicit_well types left type Nothing p = p
+implicit_well types left type (One (Number zero)) p = nothing_well types left type
+implicit_well types left type (One (Number (suc n))) p = p
+implicit_well types left type (One (Bytes [])) p = nothing_well types left type
+implicit_well types left type (One (Bytes (b ∷ s))) p = p
+implicit_well types left type (One (Sub t)) p = p
+implicit_well types left type (Many _) p = p
 
 explicit_held : (held : Held) → NotMany held → IsHeldBy cards.Explicit held
 explicit_held Nothing p = tt
@@ -422,24 +343,24 @@ member_held oneof (One value) p = tt
 member_held oneof (Many _) p = absurd p
 
 -- a field by itself
-field_well : (types : List MessageType) (left : ℕ) (nest : Nest) → NestFits types left nest → (all : List FieldType) (rs : List Record) → Each (Base types left all) rs → (field : FieldType) → Own all field → (card : Card) → field.card ≡ card → IsHeldBy card (held_by nest all rs field card) × Well types left (shape_of field.kind) (held_by nest all rs field card)
+field_well : (types : List MessageType) (left : ℕ) (nest : Nest) → NestFits types left nest → (all : List FieldType) (rs : List Record) → Each (Base types left all) rs → (field : FieldType) → Own all field → (card : Card) → field.card ≡ card → IsHeldBy card (held_by nest all rs field card) × Well types left (value_type_of field.kind) (held_by nest all rs field card)
 field_well types left nest fine all rs base field own cards.Implicit e =
-    let shape = shape_of field.kind in
-    let takes = subst (λ b. Each (Taken types left shape b) (fitting field rs)) (ap is_repeated e) (fitting_taken types left all field rs own base) in
-    (implicit_held (single nest shape (fitting field rs)) (single_not_many nest shape (fitting field rs)), implicit_well types left shape (single nest shape (fitting field rs)) (single_well types left nest fine shape (scalar_facts field.kind) (fitting field rs) takes))
+    let type = value_type_of field.kind in
+    let takes = subst (λ b. Each (Taken types left type b) (fitting field rs)) (ap is_repeated e) (fitting_taken types left all field rs own base) in
+    (implicit_held (single nest type (fitting field rs)) (single_not_many nest type (fitting field rs)), implicit_well types left type (single nest type (fitting field rs)) (single_well types left nest fine type (scalar_facts field.kind) (fitting field rs) takes))
 field_well types left nest fine all rs base field own cards.Explicit e =
-    let shape = shape_of field.kind in
-    let takes = subst (λ b. Each (Taken types left shape b) (fitting field rs)) (ap is_repeated e) (fitting_taken types left all field rs own base) in
-    (explicit_held (single nest shape (fitting field rs)) (single_not_many nest shape (fitting field rs)), single_well types left nest fine shape (scalar_facts field.kind) (fitting field rs) takes)
+    let type = value_type_of field.kind in
+    let takes = subst (λ b. Each (Taken types left type b) (fitting field rs)) (ap is_repeated e) (fitting_taken types left all field rs own base) in
+    (explicit_held (single nest type (fitting field rs)) (single_not_many nest type (fitting field rs)), single_well types left nest fine type (scalar_facts field.kind) (fitting field rs) takes)
 field_well types left nest fine all rs base field own (cards.Member oneof) e =
-    let shape = shape_of field.kind in
+    let type = value_type_of field.kind in
     let run = last_run field (of_oneof all oneof rs) in
-    let takes = subst (λ b. Each (Taken types left shape b) run) (ap is_repeated e) (oneof_taken types left all field oneof rs own base) in
-    (member_held oneof (single nest shape run) (single_not_many nest shape run), single_well types left nest fine shape (scalar_facts field.kind) run takes)
+    let takes = subst (λ b. Each (Taken types left type b) run) (ap is_repeated e) (oneof_taken types left all field oneof rs own base) in
+    (member_held oneof (single nest type run) (single_not_many nest type run), single_well types left nest fine type (scalar_facts field.kind) run takes)
 field_well types left nest fine all rs base field own (cards.Repeated packed) e =
-    let shape = shape_of field.kind in
-    let takes = subst (λ b. Each (Taken types left shape b) (fitting field rs)) (ap is_repeated e) (fitting_taken types left all field rs own base) in
-    (tt, values_fit types left shape (flat_map (values_in nest shape) (fitting field rs)) (all_values types left nest fine shape (scalar_facts field.kind) (fitting field rs) takes))
+    let type = value_type_of field.kind in
+    let takes = subst (λ b. Each (Taken types left type b) (fitting field rs)) (ap is_repeated e) (fitting_taken types left all field rs own base) in
+    (tt, values_fit types left type (flat_map (values_in nest type) (fitting field rs)) (all_values types left nest fine type (scalar_facts field.kind) (fitting field rs) takes))
 
 -- a member that isn't the last of its oneof isn't set
 member_unset : (nest : Nest) (all : List FieldType) (rs : List Record) (oneof : ℕ) (field : FieldType) (card : Card) → last_run field (of_oneof all oneof rs) ≡ [] → (is_member oneof card && is_set (held_by nest all rs field card)) ≡ false
@@ -448,11 +369,11 @@ member_unset nest all rs oneof field cards.Explicit e = refl
 member_unset nest all rs oneof field (cards.Repeated packed) e = refl
 member_unset nest all rs oneof field (cards.Member other) e = cases (eqb oneof other) refl
   where
-    cases : (t : Bool) → eqb oneof other ≡ t → (t && is_set (single nest (shape_of field.kind) (last_run field (of_oneof all other rs)))) ≡ false
+    cases : (t : Bool) → eqb oneof other ≡ t → (t && is_set (single nest (value_type_of field.kind) (last_run field (of_oneof all other rs)))) ≡ false
     cases false p = refl
     cases true p =
         let run : last_run field (of_oneof all other rs) ≡ [] = ap (λ n. last_run field (of_oneof all n rs)) (sym (eqb-true oneof other p)) ∙ e in
-        ap (λ x. is_set (single nest (shape_of field.kind) x)) run ∙ ap is_set (single_none nest (shape_of field.kind))
+        ap (λ x. is_set (single nest (value_type_of field.kind) x)) run ∙ ap is_set (single_none nest (value_type_of field.kind))
 
 others_unset : (nest : Nest) (all : List FieldType) (rs : List Record) (oneof : ℕ) (fields : List FieldType) → EachField (λ field. last_run field (of_oneof all oneof rs) ≡ []) fields → sets_member oneof fields (held_list (map (held_of nest all rs) fields)) ≡ false
 others_unset nest all rs oneof [] p = refl
@@ -475,10 +396,10 @@ field_alone nest all rs field fields differ cards.Explicit = tt
 field_alone nest all rs field fields differ (cards.Repeated packed) = tt
 field_alone nest all rs field fields differ (cards.Member oneof) = cases (last_run field (of_oneof all oneof rs)) refl
   where
-    cases : (run : List Record) → last_run field (of_oneof all oneof rs) ≡ run → IsAlone (cards.Member oneof) (single nest (shape_of field.kind) run) fields (held_list (map (held_of nest all rs) fields))
-    cases [] e = alone_nothing oneof (single nest (shape_of field.kind) []) fields (held_list (map (held_of nest all rs) fields)) (single_none nest (shape_of field.kind))
+    cases : (run : List Record) → last_run field (of_oneof all oneof rs) ≡ run → IsAlone (cards.Member oneof) (single nest (value_type_of field.kind) run) fields (held_list (map (held_of nest all rs) fields))
+    cases [] e = alone_nothing oneof (single nest (value_type_of field.kind) []) fields (held_list (map (held_of nest all rs) fields)) (single_none nest (value_type_of field.kind))
     cases (r ∷ run) e =
-        alone_any oneof (single nest (shape_of field.kind) (r ∷ run)) fields (held_list (map (held_of nest all rs) fields))
+        alone_any oneof (single nest (value_type_of field.kind) (r ∷ run)) fields (held_list (map (held_of nest all rs) fields))
         (others_unset nest all rs oneof fields (each_field (λ x. field.number ≢ x.number) (λ x. field.number ≢ x.number) (λ x. last_run x (of_oneof all oneof rs) ≡ []) fields (λ x a b.
         ⊎_elim
         (λ (none : last_run field (of_oneof all oneof rs) ≡ []). absurd (no_run r run (sym e ∙ none)))

@@ -5,6 +5,7 @@ pub mod FrameLaws
 pub mod TextLaws
 pub mod FormLaws
 pub mod WalkSteps
+pub mod FitsLaws
 pub mod RecordsFound
 pub mod RecordsFront
 pub mod OneRecord
@@ -17,6 +18,7 @@ mod Rows
 mod Examples
 mod TreeExamples
 mod KindExamples
+mod ShapeExamples
 mod FittedExamples
 mod LawfulExamples
 pub mod TickText

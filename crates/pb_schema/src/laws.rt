@@ -10,7 +10,7 @@ ghost use Rattle.pb_schema.specs.Walk.{record_left};
 ghost use Rattle.pb_schema.specs.Frames.{Frames, frames_of};
 ghost use Rattle.pb_schema.specs.Records.{AreRecords, IsRecord, Record, Records, RecordsWithin, record_of, records_of, records_within};
 ghost use Rattle.pb_schema.specs.Tree.{Tree};
-ghost use Rattle.pb_schema.specs.Fits.{Message, contents_of, fields_of};
+ghost use Rattle.pb_schema.specs.Fits.{Message, contents_of, fields_of, no_types};
 ghost use Rattle.pb_schema.specs.Fault.{fault_of, most_levels};
 ghost use Rattle.pb_schema.specs.TreeOf.{tree_of};
 ghost use Rattle.pb_schema.specs.Fitted.{Fitted};
@@ -54,8 +54,8 @@ pub fn one_list_of_records()
 pub fn one_record()
     ensures tag { (at : ℕ) (s : List ℕ) (number wire n : ℕ) → (read_tag at s ≡ Ok (number, wire, n)) ↔ ((n ≤ length s) × IsTag (take n s) number wire) }
     ensures prefix { (at : ℕ) (s : List ℕ) (len n : ℕ) → (read_length at s ≡ Ok (len, n)) ↔ ((n ≤ length s) × Varint (take n s) length_bytes len × (len < 2 ^ 31)) }
-    ensures found { (levels at : ℕ) (s : List ℕ) (form : Form) → record_left [] levels [] at s ≡ Ok form → IsRecord (AreRecords levels) (record_of form s) × (0 < form.size) × (form.size ≤ length s) }
-    ensures front { (levels at : ℕ) (s rest : List ℕ) (r : Record) → IsRecord (AreRecords levels) r → s ≡ r.span ++ rest → (form : Form) × (record_left [] levels [] at s ≡ Ok form) × (form.size ≡ length r.span) × (record_of form s ≡ r) }
+    ensures found { (levels at : ℕ) (s : List ℕ) (form : Form) → record_left no_types levels [] at s ≡ Ok form → IsRecord (AreRecords levels) (record_of form s) × (0 < form.size) × (form.size ≤ length s) }
+    ensures front { (levels at : ℕ) (s rest : List ℕ) (r : Record) → IsRecord (AreRecords levels) r → s ≡ r.span ++ rest → (form : Form) × (record_left no_types levels [] at s ≡ Ok form) × (form.size ≡ length r.span) × (record_of form s ≡ r) }
 {}
 
 /// At the root a payload has a tree exactly where it has no fault. At each depth a payload without a fault is cut into
@@ -65,7 +65,7 @@ pub fn one_record()
 pub fn a_tree_where_no_fault()
     ensures tree { (schema : Schema) (type_no : ℕ) (s : List ℕ) → IsSome (tree_of schema type_no s) ↔ (fault_of schema type_no 0 s ≡ None) }
     ensures records { (schema : Schema) (type_no depth : ℕ) (s : List ℕ) → fault_of schema type_no depth s ≡ None → (rs : List Record) × RecordsWithin (most_levels - depth) s rs }
-    ensures nested { (schema : Schema) (type_no depth : ℕ) (s : List ℕ) (rs : List Record) → fault_of schema type_no depth s ≡ None → RecordsWithin (most_levels - depth) s rs → All (λ r. (inner : ℕ) → contents_of (fields_of schema.types type_no) r.number r.wire ≡ Message inner → (depth < most_levels) × (fault_of schema inner (depth + 1) r.payload ≡ None)) rs }
+    ensures nested { (schema : Schema) (type_no depth : ℕ) (s : List ℕ) (rs : List Record) → fault_of schema type_no depth s ≡ None → RecordsWithin (most_levels - depth) s rs → All (λ r. (inner : ℕ) → contents_of schema (fields_of schema type_no) r ≡ Message inner → (depth < most_levels) × (fault_of schema inner (depth + 1) r.payload ≡ None)) rs }
     ensures together { (schema : Schema) (type_no depth : ℕ) (s t : List ℕ) → fault_of schema type_no depth s ≡ None → fault_of schema type_no depth t ≡ None → fault_of schema type_no depth (s ++ t) ≡ None }
 {}
 
