@@ -1,11 +1,11 @@
 -- Laws of kinds and of what a field takes: the numbers of a kind, the record that a field takes, and what a group holds.
-use Rattle.std.proofs.Common.{◌≡◌, ◌≢◌, ◌⊎◌, ℕ, zero, suc, ◌+◌, ◌-◌, ◌/◌, ◌%◌, ◌^◌, ◌<◌, ◌≤◌, List, [], ◌∷◌, length, take, Bool, true, false, cond, ◌&&◌, ◌||◌, eqb, Ok, refl, sym, ap, ◌∙◌, subst, inl, inr, ⊎_elim, arith, length-take-le, pow-suc}
+use Rattle.std.proofs.Common.{◌≡◌, ◌≢◌, ◌⊎◌, ℕ, zero, suc, ◌+◌, ◌-◌, ◌/◌, ◌%◌, ◌^◌, ◌<◌, List, [], ◌∷◌, length, take, Bool, true, false, cond, ◌&&◌, ◌||◌, eqb, Ok, refl, sym, ap, ◌∙◌, subst, inl, inr, ⊎_elim, arith, length-take-le, pow-suc}
 use Rattle.std.proofs.lemmas.Bool.{false≢true, eq-eqb, eqb-true, ne_eqb, and_parts, and_left, or_cases, cond-false}
 use Rattle.pb_schema.specs.declared.kind.Kind.{Kind}
 use Rattle.pb_schema.specs.declared.kind.Kind.TheVariants as kinds
 use Rattle.pb_schema.specs.declared.kind.FieldType.{FieldType}
 use Rattle.pb_schema.specs.declared.schema.Schema.{Schema}
-use Rattle.pb_schema.specs.Kinds.{Coding, ValueType, Scalar, Characters, Octets, Nested, value_type_of, value_wire, is_number, low_32, truth, unzigzag}
+use Rattle.pb_schema.specs.Kinds.{ValueType, Scalar, Characters, Octets, Nested, value_type_of, value_wire, is_number, low_32, truth, unzigzag}
 use Rattle.pb_schema.specs.Cards.{is_repeated}
 use Rattle.pb_schema.specs.Record.{Record}
 use Rattle.pb_schema.specs.Fits.{Anything, Message, wire_of, takes, contents_of, fields_within}

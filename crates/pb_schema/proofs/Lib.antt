@@ -6,6 +6,7 @@ pub mod TextLaws
 pub mod FormLaws
 pub mod WalkSteps
 pub mod FitsLaws
+pub mod Runs
 pub mod RecordsFound
 pub mod RecordsFront
 pub mod OneRecord

@@ -1,11 +1,11 @@
 -- Worked shapes of payloads, by the definitions: which pieces the unknown bytes are in, what is read as one message, and what the shape of a message is after another payload. Bytes are decimal.
-use Rattle.std.proofs.Common.{◌≡◌, ℕ, List, [], ◌∷◌, ◌++◌, map, Some, refl}
+use Rattle.std.proofs.Common.{◌≡◌, ℕ, List, [], ◌∷◌, map, Some, refl}
 use Rattle.std.specs.List.{concat}
 use Rattle.std.specs.Str.{is_utf8, chars}
 use lib.Utf8.{encode}
 use Rattle.pb_schema.specs.Builtin.{builtin, node_fields}
 use Rattle.pb_schema.specs.Records.{Record}
-use Rattle.pb_schema.specs.Tree.{HeldWith, Nothing, One, Many, Number, Bytes, Sub, Shape, Message, NoFields, FieldAnd, value_list, held_list, tree_map}
+use Rattle.pb_schema.specs.Tree.{HeldWith, Nothing, One, Many, Number, Sub, Shape, Message, NoFields, FieldAnd, value_list, held_list, tree_map}
 use Rattle.pb_schema.specs.Empty.{empty_with}
 use Rattle.pb_schema.specs.TreeOf.{records_in, runs, tree_of}
 use Rattle.pb_schema.specs.ShapeOf.{shape_of}

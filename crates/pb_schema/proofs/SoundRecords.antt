@@ -1,5 +1,5 @@
 -- What a payload without a fault is: records, each of which holds what its field takes; and bytes that are such records have no fault, wherever they begin.
-use Rattle.std.proofs.Common.{◌≡◌, ◌≢◌, ℕ, zero, suc, ◌+◌, ◌-◌, List, [], ◌∷◌, ◌++◌, length, take, drop, Bool, true, false, cond, eqb, None, Result, Ok, Err, refl, sym, ap, ◌∙◌, subst, arith, length-append, take-append-drop, append_assoc}
+use Rattle.std.proofs.Common.{◌≡◌, ◌≢◌, ℕ, zero, suc, ◌+◌, ◌-◌, List, [], ◌∷◌, ◌++◌, length, take, drop, Bool, true, false, cond, eqb, Result, Ok, Err, refl, sym, ap, ◌∙◌, subst, arith, length-append, take-append-drop, append_assoc}
 use Rattle.std.proofs.lemmas.Bool.{false≢true, eq-eqb, eqb-true}
 use Rattle.std.proofs.lemmas.List.{drop_at}
 use Rattle.std.specs.Str.{is_utf8}
@@ -18,19 +18,11 @@ use Rattle.pb_schema.proofs.WalkSteps.{after_ends, if_end, if_start, held_end, h
 use Rattle.pb_schema.proofs.RecordsFound.{each_found}
 use Rattle.pb_schema.proofs.RecordsFront.{each_front, record_size}
 use Rattle.pb_schema.proofs.FaultLaws.{same_held, group_same, held_untyped}
+use Rattle.pb_schema.proofs.Runs.{Each, each_join}
 
 -- something that is there
 abbrev pub Finds : {A : Type 0} → Result A WireFault → Type 0
 Finds {A} r = (x : A) × (r ≡ Ok x)
-
--- of each record
-abbrev pub Each : (Record → Type 0) → List Record → Type 0
-Each P [] = Unit {0}
-Each P (r ∷ rs) = P r × Each P rs
-
-pub each_join : (P : Record → Type 0) (xs ys : List Record) → Each P xs → Each P ys → Each P (xs ++ ys)
-each_join P [] ys p q = q
-each_join P (x ∷ xs) ys p q = (p.0, each_join P xs ys p.1 q)
 
 -- a record holds what its field takes
 abbrev pub Holds : Schema → ℕ → List FieldType → Record → Type 0

@@ -1,5 +1,5 @@
 -- Records: a tag and a payload, one after another (encoding guide, "Message Structure" and "Groups").
-use Rattle.std.specs.Prelude.{◌≡◌, ◌-◌, ◌^◌, ◌<◌, ℕ, zero, suc, List, [], ◌∷◌, ◌++◌, length, take, drop, Option, None, Some}
+use Rattle.std.specs.Prelude.{◌≡◌, ◌-◌, ◌^◌, ◌<◌, ℕ, zero, suc, List, [], ◌∷◌, ◌++◌, length, Option, None, Some}
 use Rattle.std.specs.Option.{option_map}
 use Rattle.pb_schema.specs.Varint.{Varint, value_bytes, length_bytes}
 use Rattle.pb_schema.specs.Tag.{IsTag}
