@@ -50,7 +50,7 @@ spans_of A [] p = refl
 spans_of A (r ∷ rs) p = (flat_map (λ r. r.span) rs, p.0, refl, spans_of A rs p.1)
 
 -- the unknown bytes are the spans of the records that no field takes
-unknown_spans : (schema : Schema) (fields : List FieldType) (rs : List Record) → unknown_of schema fields rs ≡ flat_map (λ r. r.span) (filter (λ r. not (is_taken schema fields r)) rs)
+pub unknown_spans : (schema : Schema) (fields : List FieldType) (rs : List Record) → unknown_of schema fields rs ≡ flat_map (λ r. r.span) (filter (λ r. not (is_taken schema fields r)) rs)
 unknown_spans schema fields [] = refl
 unknown_spans schema fields (r ∷ rs) = pick (is_taken schema fields r) (unknown_spans schema fields rs)
   where

@@ -2,7 +2,8 @@
 ghost use Rattle.std.specs.Prelude.{◌≡◌, ◌+◌, ◌-◌, ◌^◌, ◌<◌, ◌≤◌, ℕ, [], Some, length, drop, IfOk};
 ghost use Rattle.pb_schema.specs.Reads.{read_map};
 ghost use Rattle.pb_schema.specs.Form.{read_bytes, read_length as length_read, read_payload as payload_read, form_at};
-ghost use Rattle.pb_schema.specs.Walk.{walk_left, record_left};
+ghost use Rattle.pb_schema.specs.Fits.{no_types};
+ghost use Rattle.pb_schema.specs.Walk.{in_group, walk_left, record_left};
 ghost use Rattle.pb_schema.specs.Fault.{most_levels};
 ghost use Rattle.pb_wire.specs.Placed.{moved, moved_part};
 ghost use Rattle.pb_wire.specs.PlacedRecord.{placed};
@@ -119,7 +120,7 @@ fn read_form(bytes: &[u8], start: u32) -> Result<WireRecord, WireFault>
 fn read_group(bytes: &[u8], start: u32, number: u32, left: u32) -> Result<(u32, u32), WireFault>
     requires start { start ≤ length bytes.now }
     requires short { length bytes.now < 2 ^ 31 }
-    ensures exact { result ≡ walk_left [] left 0 [] (Some number) start (drop start bytes.now) }
+    ensures exact { result ≡ walk_left no_types left 0 (in_group [] number) start (drop start bytes.now) }
     ensures bound { IfOk result (λ stop. (start ≤ stop.0) × (stop.0 < stop.1) × (stop.1 ≤ length bytes.now)) }
 {
     let mut at = start;
@@ -160,7 +161,7 @@ pub fn read_record(bytes: &[u8], start: u32, depth: u32) -> Result<WireRecord, W
     requires start { start < length bytes.now }
     requires short { length bytes.now < 2 ^ 31 }
     requires depth { depth ≤ 100 }
-    ensures exact { result ≡ read_map (placed start) (record_left [] (most_levels - depth) [] start (drop start bytes.now)) }
+    ensures exact { result ≡ read_map (placed start) (record_left no_types (most_levels - depth) [] start (drop start bytes.now)) }
     ensures bound { IfOk result (λ r. (r.start ≡ start) × (start < r.end) × (r.end ≤ length bytes.now) × (r.payload + r.payload_len ≤ r.end)) }
 {
     let form = read_form(bytes, start)?;
