@@ -81,7 +81,7 @@ unknown_fits schema left fields rs h base =
 
 -- MESSAGES
 
-each_base : (schema : Schema) (left : ℕ) (fields : List FieldType) (rs : List Record) (s : List ℕ) → RecordsWithin left s rs → Each (Holds schema left fields) rs → Each (Base schema left fields) rs
+pub each_base : (schema : Schema) (left : ℕ) (fields : List FieldType) (rs : List Record) (s : List ℕ) → RecordsWithin left s rs → Each (Holds schema left fields) rs → Each (Base schema left fields) rs
 each_base schema left fields [] s are hold = tt
 each_base schema left fields (r ∷ rs) s are hold = ((are.1, hold.0), each_base schema left fields rs are.0 are.3 hold.1)
 
@@ -97,7 +97,7 @@ gathered_fits schema left nest fine h fields ascend s sound =
     subst (λ qs. MessageFits schema fields (gathered schema nest fields qs (unknown_of schema fields qs)) × (depth_of (gathered schema nest fields qs (unknown_of schema fields qs)) ≤ left)) (sym (sound_records schema left fields s sound))
     ((found.0, unknown_fits schema left fields rs h base), found.1)
 
-abbrev AllAscend : Schema → Type 0
+abbrev pub AllAscend : Schema → Type 0
 AllAscend schema = (type_no : ℕ) → NumbersAscend 1 (fields_of schema type_no)
 
 -- a message one level deeper is sound
@@ -122,6 +122,9 @@ ascend_among count [] p type_no = tt
 ascend_among count (type ∷ types) p zero = p.0.numbers
 ascend_among count (type ∷ types) p (suc type_no) = ascend_among count types p.1 type_no
 
+pub all_ascend : (schema : Schema) → Lawful schema → AllAscend schema
+all_ascend schema lawful = λ type_no. ascend_among _ schema.types lawful.types type_no
+
 -- a payload without a fault in its bytes
 pub no_fault_sound : (schema : Schema) (type_no depth : ℕ) (s : List ℕ) → broken_of schema type_no depth s ≡ None → Sound schema (most_levels - depth) (fields_of schema type_no) s
 no_fault_sound schema type_no depth s e =
@@ -130,17 +133,17 @@ no_fault_sound schema type_no depth s e =
     let ok = walk_ok (walk_left schema left 0 inside 0 s) e in
     walk_sound schema left (fields_of schema type_no) 0 0 s ok.0 (sym (walk_left_is schema left 0 inside 0 s) ∙ ok.1)
 
-abbrev tree_unless : Schema → ℕ → List ℕ → Option WireFault → Option Tree
+abbrev pub tree_unless : Schema → ℕ → List ℕ → Option WireFault → Option Tree
 tree_unless schema type_no s o = elim o [ None ↦ Some (tree_left schema most_levels (fields_of schema type_no) s) | Some fault ↦ None ]
 
-tree_is : (schema : Schema) (type_no : ℕ) (s : List ℕ) (t : Tree) (o : Option WireFault) → tree_unless schema type_no s o ≡ Some t → (o ≡ None) × (tree_left schema most_levels (fields_of schema type_no) s ≡ t)
+pub tree_is : (schema : Schema) (type_no : ℕ) (s : List ℕ) (t : Tree) (o : Option WireFault) → tree_unless schema type_no s o ≡ Some t → (o ≡ None) × (tree_left schema most_levels (fields_of schema type_no) s ≡ t)
 tree_is schema type_no s t None e = (refl, same_Some (tree_left schema most_levels (fields_of schema type_no) s) t e)
 tree_is schema type_no s t (Some d) e = absurd (none-some t e)
 
 pub decoded_fits : (schema : Schema) (type_no : ℕ) (s : List ℕ) (t : Tree) → Lawful schema → tree_of schema type_no s ≡ Some t → Fitted schema type_no t
 decoded_fits schema type_no s t lawful e =
     let is = tree_is schema type_no s t (broken_of schema type_no 0 s) e in
-    let fits = tree_fits schema (ascend_among _ schema.types lawful.types) most_levels (omega arith) type_no s (no_fault_sound schema type_no 0 s is.0) in
+    let fits = tree_fits schema (all_ascend schema lawful) most_levels (omega arith) type_no s (no_fault_sound schema type_no 0 s is.0) in
     subst (Fitted schema type_no) is.1 (record { fits = fits.0; depth = fits.1 })
 
 -- WHAT A PAYLOAD WITHOUT A FAULT HOLDS
@@ -151,13 +154,18 @@ records_at schema type_no depth s e = let sound = no_fault_sound schema type_no 
 walk_none : (r : Result Stop WireFault) → Finds r → fault_read r ≡ None
 walk_none r found = ap fault_read found.1
 
+-- sound bytes have no fault
+pub sound_unbroken : (schema : Schema) (type_no depth : ℕ) (s : List ℕ) → Sound schema (most_levels - depth) (fields_of schema type_no) s → broken_of schema type_no depth s ≡ None
+sound_unbroken schema type_no depth s p =
+    let left = most_levels - depth in
+    let fields = fields_of schema type_no in
+    ap fault_read (walk_left_is schema left 0 (in_message fields) 0 s ∙ (sound_walk schema left fields 0 s p).1)
+
 -- one payload behind the other
 pub together : (schema : Schema) (type_no depth : ℕ) (s t : List ℕ) → fault_of schema type_no depth s ≡ None → fault_of schema type_no depth t ≡ None → fault_of schema type_no depth (s ++ t) ≡ None
 together schema type_no depth s t p q =
-    let left = most_levels - depth in
-    let fields = fields_of schema type_no in
-    let both = sound_walk schema left fields 0 (s ++ t) (sound_join schema left fields s t (no_fault_sound schema type_no depth s p) (no_fault_sound schema type_no depth t q)) in
-    ap fault_read (walk_left_is schema left 0 (in_message fields) 0 (s ++ t) ∙ both.1)
+    sound_unbroken schema type_no depth (s ++ t)
+    (sound_join schema (most_levels - depth) (fields_of schema type_no) s t (no_fault_sound schema type_no depth s p) (no_fault_sound schema type_no depth t q))
 
 -- a message one level deeper has no fault
 deeper_none : (schema : Schema) (left type_no tag at : ℕ) (payload : List ℕ) → Finds (deeper_left schema left tag (in_message (fields_of schema type_no)) at payload) → (0 < left) × (fault_read (walk_left schema (left - 1) 0 (in_message (fields_of schema type_no)) 0 payload) ≡ None)

@@ -84,7 +84,7 @@ abbrev pub Base : Schema → ℕ → List FieldType → Record → Type 0
 Base schema left all r = IsRecord (AreRecords left) r × Holds schema left all r
 
 -- a record that this field takes
-abbrev TakenIn : Schema → ℕ → FieldType → Record → Type 0
+abbrev pub TakenIn : Schema → ℕ → FieldType → Record → Type 0
 TakenIn schema left field r = Taken schema left (value_type_of field.kind) (is_repeated field.card) r
 
 taken : (schema : Schema) (left : ℕ) (all : List FieldType) (field : FieldType) (r : Record) → Own schema all field → Base schema left all r → takes schema field r ≡ true → TakenIn schema left field r
@@ -102,10 +102,10 @@ all_taken : (schema : Schema) (left : ℕ) (all : List FieldType) (field : Field
 all_taken schema left all field rs own p =
     each_same (λ r. Base schema left all r × (takes schema field r ≡ true)) (TakenIn schema left field) rs (λ r q. taken schema left all field r own q.0 q.1) p
 
-fitting_taken : (schema : Schema) (left : ℕ) (all : List FieldType) (field : FieldType) (rs : List Record) → Own schema all field → Each (Base schema left all) rs → Each (TakenIn schema left field) (fitting schema field rs)
+pub fitting_taken : (schema : Schema) (left : ℕ) (all : List FieldType) (field : FieldType) (rs : List Record) → Own schema all field → Each (Base schema left all) rs → Each (TakenIn schema left field) (fitting schema field rs)
 fitting_taken schema left all field rs own p = all_taken schema left all field (fitting schema field rs) own (each_filter (Base schema left all) (takes schema field) rs p)
 
-oneof_taken : (schema : Schema) (left : ℕ) (all : List FieldType) (field : FieldType) (oneof : ℕ) (rs : List Record) → Own schema all field → Each (Base schema left all) rs → Each (TakenIn schema left field) (last_run schema field (of_oneof schema all oneof rs))
+pub oneof_taken : (schema : Schema) (left : ℕ) (all : List FieldType) (field : FieldType) (oneof : ℕ) (rs : List Record) → Own schema all field → Each (Base schema left all) rs → Each (TakenIn schema left field) (last_run schema field (of_oneof schema all oneof rs))
 oneof_taken schema left all field oneof rs own p =
     let members = of_oneof schema all oneof rs in
     let test = is_of_oneof schema all oneof in
@@ -205,7 +205,7 @@ text_holds at s false found = not_ok (record { kind = NotUtf8; byte = at }) foun
 message_fine : (schema : Schema) (left : ℕ) (repeated : Bool) (type_no : ℕ) (r : Record) → Taken schema left (Nested type_no) repeated r → Fine schema left type_no r.payload
 message_fine schema left repeated type_no r p = deeper_is schema (deeper_left schema left) p.holds.0 p.holds.1 r.payload type_no p.holds.2 λ stop. (p.holds.0, p.holds.1, stop)
 
-messages_fine : (schema : Schema) (left : ℕ) (repeated : Bool) (type_no : ℕ) (rs : List Record) → Each (Taken schema left (Nested type_no) repeated) rs → AllFine schema left type_no (payloads_of rs)
+pub messages_fine : (schema : Schema) (left : ℕ) (repeated : Bool) (type_no : ℕ) (rs : List Record) → Each (Taken schema left (Nested type_no) repeated) rs → AllFine schema left type_no (payloads_of rs)
 messages_fine schema left repeated type_no [] p = tt
 messages_fine schema left repeated type_no (r ∷ rs) p = (message_fine schema left repeated type_no r p.0, messages_fine schema left repeated type_no rs p.1)
 

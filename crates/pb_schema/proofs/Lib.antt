@@ -11,10 +11,12 @@ pub mod RecordsFound
 pub mod RecordsFront
 pub mod OneRecord
 pub mod MergeLaws
+pub mod MapLaws
 pub mod FaultLaws
 pub mod SoundRecords
 pub mod Gathering
 pub mod FittedLaws
+pub mod ShapeLaws
 mod Rows
 mod Examples
 mod TreeExamples

@@ -1,4 +1,4 @@
--- Laws of the map that changes what is unknown in a tree: it keeps the depth, the units are those by the size of what it gives, and merging goes onto it where joining does.
+-- Laws of the map that changes what is unknown in a tree: it keeps the depth, the units are those by the size of what it gives, and merging goes with it where joining does.
 use Rattle.std.proofs.Common.{◌≡◌, ℕ, suc, ◌+◌, List, [], ◌∷◌, Bool, true, false, cond, ◌||◌, ◌&&◌, refl, sym, ap, ◌∙◌}
 use Rattle.std.specs.Prelude.{max}
 use Rattle.pb_schema.specs.declared.kind.Card.{Card}
@@ -73,7 +73,7 @@ joined_map f (ValueAnd x xs) ys = ap (λ rest. ValueAnd (value_map f x) rest) (j
 pub set_map : {U V : Type 0} (f : U → V) (held : HeldWith U) → is_set (held_map f held) ≡ is_set held
 set_map f Nothing = refl
 set_map f (One value) = refl
-set_map f (Many values) = refl
+set_map f (Many _) = refl
 
 pub member_map : {U V : Type 0} (f : U → V) (oneof : ℕ) (fields : List FieldType) (held : HeldListWith U) → sets_member oneof fields (fields_map f held) ≡ sets_member oneof fields held
 member_map f oneof [] held = refl
@@ -125,4 +125,4 @@ mutual
   pub merge_map : {U V : Type 0} (f : U → V) (join : U → U → U) (onto : V → V → V) → JoinsAs f join onto → (schema : Schema) (fields : List FieldType) (t u : TreeWith U)
       → tree_map f (message_merged join schema fields t u) ≡ message_merged onto schema fields (tree_map f t) (tree_map f u)
   merge_map f join onto same schema fields (Message xs unknown) (Message ys more) =
-      ap (λ held. Message held (f (join unknown more))) (fields_merge_map f join onto same schema fields ys fields xs ys) ∙ ap (Message _) (same unknown more)
+      ap (λ held. Message held (f (join unknown more))) (fields_merge_map f join onto same schema fields ys fields xs ys) ∙ ap (Message (fields_merged onto schema fields (fields_map f ys) fields (fields_map f xs) (fields_map f ys))) (same unknown more)

@@ -178,7 +178,7 @@ sound_walk schema left fields at s p = sound_walk_at schema left fields (anywher
 
 -- ONE BEHIND THE OTHER
 
-spans_join : (A : List ℕ → Type 0) (xs ys : List Record) (s t : List ℕ) → Spans A xs s → Spans A ys t → Spans A (xs ++ ys) (s ++ t)
+pub spans_join : (A : List ℕ → Type 0) (xs ys : List Record) (s t : List ℕ) → Spans A xs s → Spans A ys t → Spans A (xs ++ ys) (s ++ t)
 spans_join A [] ys s t p q = subst (Spans A ys) (sym (ap (λ x. x ++ t) p)) q
 spans_join A (x ∷ xs) ys s t p q = (p.0 ++ t, p.1, ap (λ x. x ++ t) p.2 ∙ append_assoc x.span p.0 t, spans_join A xs ys p.0 t p.3 q)
 
