@@ -1,6 +1,6 @@
 -- What the records of a payload give, one after another: the field's number, and the bytes that don't fit it.
 use Rattle.std.proofs.Common.{◌≡◌, ◌+◌, ◌-◌, ◌<◌, ◌≤◌, ℕ, zero, suc, List, [], ◌∷◌, ◌++◌, length, take, drop, Bool, true, false, not, cond, ◌&&◌, ◌||◌, eqb, Option, None, Some, Ok, Err, refl, sym, ap, ◌∙◌, subst, arith, append_assoc, append-nil, drop-drop, length-drop}
-use Rattle.std.specs.List.{filter}
+use Rattle.std.specs.List.{filter, concat}
 use Rattle.std.specs.Prelude.{flat_map}
 use Rattle.std.proofs.lemmas.List.{take_all, take-append-drop, length-append}
 use Rattle.std.proofs.lemmas.List.Elements.{filter-append}
@@ -13,14 +13,14 @@ use Rattle.pb_schema.specs.declared.kind.Kind.TheVariants as kinds
 use Rattle.pb_schema.specs.declared.kind.Card.TheVariants as cards
 use Rattle.pb_schema.specs.Varint.{Varint, varint_at, value_bytes}
 use Rattle.pb_schema.specs.Form.{Form, read_varint}
-use Rattle.pb_schema.specs.Fits.{fits, fits_any, fields_of}
+use Rattle.pb_schema.specs.Fits.{takes, is_taken, no_types, fields_of}
 use Rattle.pb_schema.specs.Fault.{fault_of, most_levels}
 use Rattle.pb_schema.specs.Reads.{read_map, fault_read}
 use Rattle.pb_schema.specs.Records.{Record, IsRecord, AreRecords, Spells, Spans, RecordsWithin, Records, record_of}
 use Rattle.pb_schema.specs.Tree.{Held, Nothing, One, Value, Number, Tree, Message, NoFields, FieldAnd}
-use Rattle.pb_schema.specs.TreeOf.{tree_of, tree_left, gathered, or_none, number_in, fitting, last_of, unknown_of, unless_default, last_held, Nest}
+use Rattle.pb_schema.specs.TreeOf.{tree_of, tree_left, gathered, or_none, number_in, fitting, last_of, unknown_in as unknown_by, unknown_of, unless_default, last_held, Nest}
 use Rattle.pb_schema.specs.Walk.{record_left}
-use Rattle.pb_schema.proofs.FittedLaws.{records_at}
+use Rattle.pb_schema.proofs.FittedLaws.{records_at, unknown_spans}
 use Rattle.pb_schema.proofs.OneRecord.{record_there}
 use Rattle.pb_schema.proofs.RecordsFront.{records_of_spans}
 use Rattle.pb_schema.proofs.FormLaws.{not_ok, same_ok, read_varint_some}
@@ -29,7 +29,7 @@ use Rattle.pb_wire.specs.declared.wire_record.WireRecord.{WireRecord}
 use Rattle.pb_wire.specs.PlacedRecord.{placed}
 use Rattle.pb_wire.specs.Placed.{moved}
 use Rattle.pb_wire.proofs.Walking.{read_ok}
-use Rattle.arena_run.specs.Payload.{unknown_in, IsValueAt}
+use Rattle.arena_run.specs.Payload.{unknown_in, takes_value, IsValueAt}
 use Rattle.arena_run.specs.Stands.{held, tick}
 use Rattle.arena_run.proofs.Sound.{plain_walk, fault_is, walk_behind, walk_end, fault_here, value_form}
 use Rattle.arena_run.proofs.Taken.{take_two}
@@ -57,7 +57,7 @@ record IsNext (bytes : List ℕ) (at : ℕ) (rs : List Record) (form : Form) : T
   some : 1 ≤ form.size
   fits : at + form.size ≤ length bytes
 
-next_cut : (bytes : List ℕ) (at : ℕ) (rs : List Record) (form : Form) → CutTo bytes at rs → record_left [] 100 [] at (drop at bytes) ≡ Ok form → IsNext bytes at rs form
+next_cut : (bytes : List ℕ) (at : ℕ) (rs : List Record) (form : Form) → CutTo bytes at rs → record_left no_types 100 [] at (drop at bytes) ≡ Ok form → IsNext bytes at rs form
 next_cut bytes at rs form so_far e =
     let s = drop at bytes in
     let there = record_there 100 at s form e in
@@ -96,30 +96,27 @@ number_of r = Number (number_in 0 r.payload)
 
 -- what the field holds
 pub field_held : List Record → Held
-field_held rs = unless_default (last_held number_of (fitting tick_field rs))
+field_held rs = unless_default (last_held number_of (fitting builtin tick_field rs))
 
 -- the bytes that don't fit it
 abbrev pub unknown_bytes : List Record → List ℕ
-unknown_bytes rs = unknown_of tick_type.fields rs
+unknown_bytes rs = unknown_of builtin tick_type.fields rs
 
-abbrev pub takes : ℕ → ℕ → Bool
-takes number wire = fits_any tick_type.fields number wire
-
-takes_is : (number wire : ℕ) → takes number wire ≡ fits tick_field number wire
+takes_is : (r : Record) → takes_value r.number r.wire ≡ takes builtin tick_field r
 unfolding tick_field
-takes_is number wire = or_false (fits tick_field number wire)
+takes_is r = or_false (takes builtin tick_field r)
   where
     or_false : (b : Bool) → (b || false) ≡ b
     or_false true = refl
     or_false false = refl
 
-pub takes_test : (number wire : ℕ) → (eqb number 1 && eqb wire 0) ≡ takes number wire
+pub takes_test : (number wire : ℕ) → (eqb number 1 && eqb wire 0) ≡ takes_value number wire
 takes_test number wire = ap (λ b. b && eqb wire 0) (eqb_swap number 1) ∙ same (eqb 1 number) (eqb wire 0) (eqb wire 2)
   where
     eqb_swap : (a b : ℕ) → eqb a b ≡ eqb b a
     eqb_swap a b = grind arith
 
-    same : (a b c : Bool) → (a && b) ≡ ((a && (b || (c && true && false))) || false)
+    same : (a b c : Bool) → (a && b) ≡ ((a && (b || (c && false))) || false)
     same true true c = refl
     same true false true = refl
     same true false false = refl
@@ -141,44 +138,42 @@ held_is : (v : ℕ) → unless_default (One (Number v)) ≡ held v
 held_is zero = refl
 held_is (suc v) = refl
 
-fitting_more : (rs : List Record) (r : Record) → fitting tick_field (rs ++ r ∷ []) ≡ fitting tick_field rs ++ kept_one (fits tick_field r.number r.wire) r
-fitting_more rs r = filter-append (λ r. fits tick_field r.number r.wire) rs (r ∷ [])
+fitting_more : (rs : List Record) (r : Record) → fitting builtin tick_field (rs ++ r ∷ []) ≡ fitting builtin tick_field rs ++ kept_one (takes builtin tick_field r) r
+fitting_more rs r = filter-append (takes builtin tick_field) rs (r ∷ [])
 
-pub held_taken : (rs : List Record) (r : Record) (v : ℕ) → takes r.number r.wire ≡ true → v ≡ number_in 0 r.payload → field_held (rs ++ r ∷ []) ≡ held v
+pub held_taken : (rs : List Record) (r : Record) (v : ℕ) → takes_value r.number r.wire ≡ true → v ≡ number_in 0 r.payload → field_held (rs ++ r ∷ []) ≡ held v
 unfolding field_held
 held_taken rs r v e is =
-    ap (λ xs. unless_default (last_held number_of xs)) (fitting_more rs r ∙ ap (λ b. fitting tick_field rs ++ kept_one b r) (sym (takes_is r.number r.wire) ∙ e))
-    ∙ (ap held_last (last_more (fitting tick_field rs) r) ∙ (ap (λ n. unless_default (One (Number n))) (sym is) ∙ held_is v))
+    ap (λ xs. unless_default (last_held number_of xs)) (fitting_more rs r ∙ ap (λ b. fitting builtin tick_field rs ++ kept_one b r) (sym (takes_is r) ∙ e))
+    ∙ (ap held_last (last_more (fitting builtin tick_field rs) r) ∙ (ap (λ n. unless_default (One (Number n))) (sym is) ∙ held_is v))
 
-pub held_not_taken : (rs : List Record) (r : Record) → takes r.number r.wire ≡ false → field_held (rs ++ r ∷ []) ≡ field_held rs
+pub held_not_taken : (rs : List Record) (r : Record) → takes_value r.number r.wire ≡ false → field_held (rs ++ r ∷ []) ≡ field_held rs
 unfolding field_held
 held_not_taken rs r e =
-    ap (λ xs. unless_default (last_held number_of xs)) (fitting_more rs r ∙ (ap (λ b. fitting tick_field rs ++ kept_one b r) (sym (takes_is r.number r.wire) ∙ e) ∙ append-nil (fitting tick_field rs)))
+    ap (λ xs. unless_default (last_held number_of xs)) (fitting_more rs r ∙ (ap (λ b. fitting builtin tick_field rs ++ kept_one b r) (sym (takes_is r) ∙ e) ∙ append-nil (fitting builtin tick_field rs)))
 
-unknown_more : (rs : List Record) (r : Record) → unknown_bytes (rs ++ r ∷ []) ≡ unknown_bytes rs ++ flat_map (λ (q : Record). q.span) (kept_one (not (takes r.number r.wire)) r)
-unknown_more rs r =
-    ap (flat_map (λ (q : Record). q.span)) (filter-append (λ (q : Record). not (takes q.number q.wire)) rs (r ∷ []))
-    ∙ flat_map-append (λ (q : Record). q.span) (filter (λ (q : Record). not (takes q.number q.wire)) rs) (kept_one (not (takes r.number r.wire)) r)
+unknown_more : (rs : List Record) (r : Record) → unknown_bytes (rs ++ r ∷ []) ≡ unknown_bytes rs ++ (cond (takes_value r.number r.wire) [] r.span ++ [])
+unknown_more rs r = flat_map-append (unknown_by builtin tick_type.fields) rs (r ∷ [])
 
-pub unknown_taken : (rs : List Record) (r : Record) → takes r.number r.wire ≡ true → unknown_bytes (rs ++ r ∷ []) ≡ unknown_bytes rs
+pub unknown_taken : (rs : List Record) (r : Record) → takes_value r.number r.wire ≡ true → unknown_bytes (rs ++ r ∷ []) ≡ unknown_bytes rs
 unknown_taken rs r e =
-    unknown_more rs r ∙ (ap (λ b. unknown_bytes rs ++ flat_map (λ (q : Record). q.span) (kept_one (not b) r)) e ∙ append-nil (unknown_bytes rs))
+    unknown_more rs r ∙ (ap (λ b. unknown_bytes rs ++ (cond b [] r.span ++ [])) e ∙ append-nil (unknown_bytes rs))
 
-pub unknown_not_taken : (rs : List Record) (r : Record) → takes r.number r.wire ≡ false → unknown_bytes (rs ++ r ∷ []) ≡ unknown_bytes rs ++ r.span
+pub unknown_not_taken : (rs : List Record) (r : Record) → takes_value r.number r.wire ≡ false → unknown_bytes (rs ++ r ∷ []) ≡ unknown_bytes rs ++ r.span
 unknown_not_taken rs r e =
-    unknown_more rs r ∙ (ap (λ b. unknown_bytes rs ++ flat_map (λ (q : Record). q.span) (kept_one (not b) r)) e ∙ ap (λ x. unknown_bytes rs ++ x) (append-nil r.span))
+    unknown_more rs r ∙ (ap (λ b. unknown_bytes rs ++ (cond b [] r.span ++ [])) e ∙ ap (λ x. unknown_bytes rs ++ x) (append-nil r.span))
 
 -- THE TREE
 
 abbrev tree_unless : List ℕ → Option WireFault → Option Tree
-tree_unless s o = elim o [ None ↦ Some (tree_left builtin.types most_levels (fields_of builtin.types 0) s) | Some fault ↦ None ]
+tree_unless s o = elim o [ None ↦ Some (tree_left builtin most_levels (fields_of builtin 0) s) | Some fault ↦ None ]
 
 pub tree_is : (bytes : List ℕ) (rs : List Record) (v : ℕ) (unknown : List ℕ) → AllCut bytes rs → field_held rs ≡ held v → unknown_bytes rs ≡ unknown → tree_of builtin 0 bytes ≡ Some (tick v unknown)
 unfolding field_held tick_field
 tree_is bytes rs v unknown all value rest =
-    let nest : Nest = λ type_no payload. tree_left builtin.types 99 (fields_of builtin.types type_no) payload in
+    let nest : Nest (List ℕ) = λ type_no payloads. tree_left builtin 99 (fields_of builtin type_no) (concat payloads) in
     ap (tree_unless bytes) all.sound
-    ∙ (ap (λ o. Some (gathered nest tick_type.fields (or_none o))) (records_of_spans 100 rs bytes all.are)
+    ∙ (ap (λ o. Some (gathered builtin nest tick_type.fields (or_none o) (unknown_bytes (or_none o)))) (records_of_spans 100 rs bytes all.are)
     ∙ (ap (λ h. Some (Message (FieldAnd h NoFields) (unknown_bytes rs))) value ∙ ap (λ u. Some (tick v u)) rest))
 
 pub unknown_is : (bytes : List ℕ) (rs : List Record) → AllCut bytes rs → unknown_in bytes ≡ unknown_bytes rs
@@ -188,7 +183,7 @@ unknown_is bytes rs all = ap (λ o. unknown_bytes (or_none o)) (records_of_spans
 -- WHERE A READER STANDS
 
 -- a record of the field has wire type 0
-takes_wire : (number wire : ℕ) → takes number wire ≡ true → wire ≡ 0
+takes_wire : (number wire : ℕ) → takes_value number wire ≡ true → wire ≡ 0
 takes_wire number wire e = eqb-true wire 0 (and_parts (eqb number 1) (eqb wire 0) (takes_test number wire ∙ e)).1
 
 -- the field's number so far
@@ -211,10 +206,10 @@ record ReadNext (bytes : List ℕ) (at : ℕ) (rs : List Record) (w : WireRecord
   payload : r.payload ≡ take w.payload_len (drop w.payload bytes)
   span : r.span ≡ take (w.end - at) (drop at bytes)
 
-read_next : (bytes : List ℕ) (at : ℕ) (rs : List Record) (w : WireRecord) → CutTo bytes at rs → Ok w ≡ read_map (placed at) (record_left [] 100 [] at (drop at bytes)) → ReadNext bytes at rs w
+read_next : (bytes : List ℕ) (at : ℕ) (rs : List Record) (w : WireRecord) → CutTo bytes at rs → Ok w ≡ read_map (placed at) (record_left no_types 100 [] at (drop at bytes)) → ReadNext bytes at rs w
 read_next bytes at rs w so_far e =
     let s = drop at bytes in
-    let found = read_ok (record_left [] 100 [] at s) at w e in
+    let found = read_ok (record_left no_types 100 [] at s) at w e in
     let form = found.form in
     let next = next_cut bytes at rs form so_far found.is in
     let end : w.end ≡ at + form.size = ap (λ (x : WireRecord). x.end) found.there in
@@ -237,7 +232,7 @@ record ValueOf (bytes : List ℕ) (w : WireRecord) (payload : List ℕ) : Type 0
   number : value ≡ number_in 0 payload
   read : varint_at value_bytes (drop w.payload bytes) ≡ Some (value, length payload)
 
-value_of : (bytes : List ℕ) (at : ℕ) (rs : List Record) (w : WireRecord) (next : ReadNext bytes at rs w) → takes w.number w.wire ≡ true → ValueOf bytes w next.r.payload
+value_of : (bytes : List ℕ) (at : ℕ) (rs : List Record) (w : WireRecord) (next : ReadNext bytes at rs w) → takes_value w.number w.wire ≡ true → ValueOf bytes w next.r.payload
 value_of bytes at rs w next e =
     let r = next.r in
     let wire : r.wire ≡ 0 = next.wire ∙ takes_wire w.number w.wire e in
@@ -254,17 +249,17 @@ same_answer : (start v n value end : ℕ) (o : Option (ℕ × ℕ)) (s : List �
 same_answer start v n value end o s found e =
     ap (λ (x : ℕ × ℕ). x.0) (same_ok (v, start + n) (value, end) (sym (e ∙ ap (moved start) (read_varint_some value_bytes start s v n found))))
 
-pub value_taken : (bytes : List ℕ) (at was : ℕ) (w : WireRecord) (value end : ℕ) → ValueTo bytes at was → Ok w ≡ read_map (placed at) (record_left [] 100 [] at (drop at bytes)) → takes w.number w.wire ≡ true
+pub value_taken : (bytes : List ℕ) (at was : ℕ) (w : WireRecord) (value end : ℕ) → ValueTo bytes at was → Ok w ≡ read_map (placed at) (record_left no_types 100 [] at (drop at bytes)) → takes_value w.number w.wire ≡ true
     → Ok (value, end) ≡ moved w.payload (read_varint value_bytes w.payload (drop w.payload bytes)) → ValueTo bytes w.end value
 value_taken bytes at was w value end so_far e taken answer =
     let next = read_next bytes at so_far.rs w so_far.cut e in
     let found = value_of bytes at so_far.rs w next taken in
     let same = same_answer w.payload found.value (length next.r.payload) value end None (drop w.payload bytes) found.read answer in
-    let fits : takes next.r.number next.r.wire ≡ true = ap (λ n. takes n next.r.wire) next.number ∙ (ap (λ n. takes w.number n) next.wire ∙ taken) in
+    let fits : takes_value next.r.number next.r.wire ≡ true = ap (λ n. takes_value n next.r.wire) next.number ∙ (ap (λ n. takes_value w.number n) next.wire ∙ taken) in
     record { rs = so_far.rs ++ next.r ∷ []; cut = next.cut; value_is = held_taken so_far.rs next.r value fits (sym same ∙ found.number) }
 
 -- its value is there
-pub value_there : {P : Type 0} (bytes : List ℕ) (at was : ℕ) (w : WireRecord) (d : WireFault) → ValueTo bytes at was → Ok w ≡ read_map (placed at) (record_left [] 100 [] at (drop at bytes)) → takes w.number w.wire ≡ true
+pub value_there : {P : Type 0} (bytes : List ℕ) (at was : ℕ) (w : WireRecord) (d : WireFault) → ValueTo bytes at was → Ok w ≡ read_map (placed at) (record_left no_types 100 [] at (drop at bytes)) → takes_value w.number w.wire ≡ true
     → Err d ≡ moved w.payload (read_varint value_bytes w.payload (drop w.payload bytes)) → P
 value_there bytes at was w d so_far e taken answer =
     let next = read_next bytes at so_far.rs w so_far.cut e in
@@ -272,10 +267,10 @@ value_there bytes at was w d so_far e taken answer =
     let n = length next.r.payload in
     not_ok d (found.value, w.payload + n) (answer ∙ ap (moved w.payload) (read_varint_some value_bytes w.payload (drop w.payload bytes) found.value n found.read))
 
-pub value_not_taken : (bytes : List ℕ) (at was : ℕ) (w : WireRecord) → ValueTo bytes at was → Ok w ≡ read_map (placed at) (record_left [] 100 [] at (drop at bytes)) → takes w.number w.wire ≡ false → ValueTo bytes w.end was
+pub value_not_taken : (bytes : List ℕ) (at was : ℕ) (w : WireRecord) → ValueTo bytes at was → Ok w ≡ read_map (placed at) (record_left no_types 100 [] at (drop at bytes)) → takes_value w.number w.wire ≡ false → ValueTo bytes w.end was
 value_not_taken bytes at was w so_far e other =
     let next = read_next bytes at so_far.rs w so_far.cut e in
-    let fits : takes next.r.number next.r.wire ≡ false = ap (λ n. takes n next.r.wire) next.number ∙ (ap (λ n. takes w.number n) next.wire ∙ other) in
+    let fits : takes_value next.r.number next.r.wire ≡ false = ap (λ n. takes_value n next.r.wire) next.number ∙ (ap (λ n. takes_value w.number n) next.wire ∙ other) in
     record { rs = so_far.rs ++ next.r ∷ []; cut = next.cut; value_is = held_not_taken so_far.rs next.r fits ∙ so_far.value_is }
 
 pub surveyed : (bytes : List ℕ) (at value : ℕ) → ValueTo bytes at value → length bytes ≤ at → (tree_of builtin 0 bytes ≡ Some (tick value (unknown_in bytes))) × (fault_of builtin 0 0 bytes ≡ None)
@@ -284,7 +279,7 @@ surveyed bytes at value so_far past =
     (tree_is bytes so_far.rs value (unknown_in bytes) all so_far.value_is (sym (unknown_is bytes so_far.rs all)), all.sound)
 
 -- where a record isn't read, that is the fault of all
-pub fault_of_all : (bytes : List ℕ) (at : ℕ) (rs : List Record) (d : WireFault) → CutTo bytes at rs → at < length bytes → Err d ≡ read_map (placed at) (record_left [] 100 [] at (drop at bytes)) → fault_of builtin 0 0 bytes ≡ Some d
+pub fault_of_all : (bytes : List ℕ) (at : ℕ) (rs : List Record) (d : WireFault) → CutTo bytes at rs → at < length bytes → Err d ≡ read_map (placed at) (record_left no_types 100 [] at (drop at bytes)) → fault_of builtin 0 0 bytes ≡ Some d
 fault_of_all bytes at rs d so_far inside e = fault_is bytes ∙ ap fault_read (sym so_far.same ∙ fault_here bytes at d inside e)
 
 -- PLAIN PAYLOADS
@@ -334,11 +329,11 @@ pub record UnknownTo (bytes : List ℕ) (run at : ℕ) (copied : List ℕ) : Typ
 pub unknown_none : (bytes : List ℕ) → UnknownTo bytes 0 0 []
 unknown_none bytes = record { rs = []; cut = cut_none bytes; order = omega arith; unknown = refl }
 
-pub copied_more : (bytes : List ℕ) (run at : ℕ) (copied now : List ℕ) (w : WireRecord) → UnknownTo bytes run at copied → Ok w ≡ read_map (placed at) (record_left [] 100 [] at (drop at bytes)) → takes w.number w.wire ≡ true
+pub copied_more : (bytes : List ℕ) (run at : ℕ) (copied now : List ℕ) (w : WireRecord) → UnknownTo bytes run at copied → Ok w ≡ read_map (placed at) (record_left no_types 100 [] at (drop at bytes)) → takes_value w.number w.wire ≡ true
     → now ≡ copied ++ take (at - run) (drop run bytes) → UnknownTo bytes w.end w.end now
 copied_more bytes run at copied now w so_far e taken is_now =
     let next = read_next bytes at so_far.rs w so_far.cut e in
-    let fits : takes next.r.number next.r.wire ≡ true = ap (λ n. takes n next.r.wire) next.number ∙ (ap (λ n. takes w.number n) next.wire ∙ taken) in
+    let fits : takes_value next.r.number next.r.wire ≡ true = ap (λ n. takes_value n next.r.wire) next.number ∙ (ap (λ n. takes_value w.number n) next.wire ∙ taken) in
     let nothing : 0 ≡ w.end - w.end = omega arith in
     record {
       rs = so_far.rs ++ next.r ∷ [];
@@ -347,10 +342,10 @@ copied_more bytes run at copied now w so_far e taken is_now =
       unknown = unknown_taken so_far.rs next.r fits ∙ (so_far.unknown ∙ (sym is_now ∙ (sym (append-nil now) ∙ ap (λ n. now ++ take n (drop w.end bytes)) nothing)));
     }
 
-pub run_more : (bytes : List ℕ) (run at : ℕ) (copied : List ℕ) (w : WireRecord) → UnknownTo bytes run at copied → Ok w ≡ read_map (placed at) (record_left [] 100 [] at (drop at bytes)) → at < w.end → takes w.number w.wire ≡ false → UnknownTo bytes run w.end copied
+pub run_more : (bytes : List ℕ) (run at : ℕ) (copied : List ℕ) (w : WireRecord) → UnknownTo bytes run at copied → Ok w ≡ read_map (placed at) (record_left no_types 100 [] at (drop at bytes)) → at < w.end → takes_value w.number w.wire ≡ false → UnknownTo bytes run w.end copied
 run_more bytes run at copied w so_far e longer other =
     let next = read_next bytes at so_far.rs w so_far.cut e in
-    let fits : takes next.r.number next.r.wire ≡ false = ap (λ n. takes n next.r.wire) next.number ∙ (ap (λ n. takes w.number n) next.wire ∙ other) in
+    let fits : takes_value next.r.number next.r.wire ≡ false = ap (λ n. takes_value n next.r.wire) next.number ∙ (ap (λ n. takes_value w.number n) next.wire ∙ other) in
     let order = so_far.order in
     let here : run + (at - run) ≡ at = omega (arith, order) in
     let whole : at - run + (w.end - at) ≡ w.end - run = omega (arith, order, longer) in
@@ -404,7 +399,7 @@ pub unknown_whole : (bytes unknown : List ℕ) → fault_of builtin 0 0 bytes �
 unknown_whole bytes unknown sound is =
     let found = records_at builtin 0 0 bytes sound in
     let rs = found.0 in
-    let test : Record → Bool = λ r. not (takes r.number r.wire) in
-    let same : unknown ≡ unknown_bytes rs = is ∙ unknown_is bytes rs (record { sound = sound; are = found.1 }) in
+    let test : Record → Bool = λ r. not (is_taken builtin tick_type.fields r) in
+    let same : unknown ≡ spans_in (filter test rs) = is ∙ (unknown_is bytes rs (record { sound = sound; are = found.1 }) ∙ unknown_spans builtin tick_type.fields rs) in
     subst (λ u. IsWhole u × (length u ≤ length bytes)) (sym same)
     ((filter test rs, (most_levels, kept_spans (AreRecords most_levels) test rs bytes found.1)), kept_short (AreRecords most_levels) test rs bytes found.1)

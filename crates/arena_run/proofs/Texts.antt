@@ -18,7 +18,7 @@ text_set (suc v) set = append-nil _ ∙ append-nil _
 
 -- the unknown bytes stand behind the field
 pub text_with : (v : ℕ) (unknown : List ℕ) → text_of builtin 0 (tick v unknown) ≡ text_of builtin 0 (tick v []) ++ unknown
-text_with v unknown = behind (fields_text builtin.types (fields_of builtin.types 0) (FieldAnd (held v) NoFields))
+text_with v unknown = behind (fields_text builtin (fields_of builtin 0) (FieldAnd (held v) NoFields))
   where
     behind : (fields : List ℕ) → fields ++ unknown ≡ (fields ++ []) ++ unknown
     behind fields = ap (λ bs. bs ++ unknown) (sym (append-nil fields))

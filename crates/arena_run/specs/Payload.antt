@@ -1,17 +1,22 @@
 -- What a payload of `pb.Tick` holds.
-use Rattle.std.specs.Prelude.{◌≡◌, ◌+◌, ℕ, List, drop, Some, ⊤}
+use Rattle.std.specs.Prelude.{◌≡◌, ◌+◌, ℕ, Bool, List, [], drop, Some, ⊤}
 use Rattle.pb_schema.specs.Builtin.{builtin, tick_type}
 use Rattle.pb_schema.specs.Fault.{fault_of, most_levels}
-use Rattle.pb_schema.specs.Records.{records_within}
+use Rattle.pb_schema.specs.Records.{Record}
+use Rattle.pb_schema.specs.Fits.{is_taken}
 use Rattle.pb_schema.specs.Tag.{tag_of}
-use Rattle.pb_schema.specs.TreeOf.{or_none, unknown_of}
+use Rattle.pb_schema.specs.TreeOf.{records_in, unknown_of}
 use Rattle.pb_schema.specs.Varint.{varint_at, tag_bytes, value_bytes}
 use Rattle.arena_run.specs.declared.contents.PayloadFault.{PayloadFault}
 use Rattle.arena_run.specs.declared.contents.PayloadFault.TheVariants.{NoMemory, Bad}
 
 -- the bytes of its records that don't fit the field, in their order
 unfoldable pub unknown_in : List ℕ → List ℕ
-unknown_in s = unknown_of tick_type.fields (or_none (records_within most_levels s))
+unknown_in s = unknown_of builtin tick_type.fields (records_in most_levels s)
+
+-- whether the field takes a record with this number and wire type, whatever its bytes are
+abbrev pub takes_value : ℕ → ℕ → Bool
+takes_value number wire = is_taken builtin tick_type.fields (record { number = number; wire = wire; payload = []; span = [] })
 
 -- a fault is the first of the payload; want of memory may come for any
 abbrev pub IsFaultOf : List ℕ → PayloadFault → Type 0

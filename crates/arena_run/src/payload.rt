@@ -1,11 +1,10 @@
 // Payloads of any records: the field's number, and the bytes of the records that don't fit the field.
 ghost use Rattle.std.specs.Prelude.{◌≡◌, ◌^◌, ◌<◌, ◌≤◌, List, None, Some, length, IfOk, IfErr};
-ghost use Rattle.pb_schema.specs.Builtin.{builtin, tick_type};
+ghost use Rattle.pb_schema.specs.Builtin.{builtin};
 ghost use Rattle.pb_schema.specs.Fault.{fault_of};
-ghost use Rattle.pb_schema.specs.Fits.{fits_any};
 ghost use Rattle.pb_schema.specs.Records.{Record, Records};
 ghost use Rattle.pb_schema.specs.TreeOf.{tree_of};
-ghost use Rattle.arena_run.specs.Payload.{unknown_in, IsFaultOf};
+ghost use Rattle.arena_run.specs.Payload.{unknown_in, takes_value, IsFaultOf};
 ghost use Rattle.arena_run.specs.Stands.{tick};
 
 use crate::contents::{Contents, PayloadFault};
@@ -100,7 +99,7 @@ fn gather(alloc: Global, payload: &[u8], room: usize) -> Result<Vec<u8>, NoMemor
 
 // Whether the field takes a record.
 fn fits_field(found: &WireRecord) -> bool
-    ensures { result ≡ fits_any tick_type.fields found.now.number found.now.wire }
+    ensures { result ≡ takes_value found.now.number found.now.wire }
 {
     found.number == VALUE_NUMBER && found.wire == VARINT
 }

@@ -10,7 +10,7 @@ use Rattle.pb_schema.specs.Builtin.{builtin, node_fields}
 use Rattle.pb_schema.specs.Empty.{unset}
 use Rattle.pb_schema.specs.Records.{Record, records_within}
 use Rattle.pb_schema.specs.Tree.{Held, Nothing, One, Many, Value, Number, Bytes, Sub, Tree, Message, NoFields, FieldAnd, value_list, held_list}
-use Rattle.pb_schema.specs.Fitted.{FitNone, IsUnknown, MessageFits, Fitted}
+use Rattle.pb_schema.specs.Fitted.{NoneTaken, IsUnknown, MessageFits, Fitted}
 use Rattle.pb_schema.proofs.RecordsFront.{records_found, records_of_spans}
 
 -- what text computes with
@@ -34,7 +34,7 @@ many values = Many (value_list values)
 
 -- TREES THAT FIT
 
-none_unknown : (fields : List FieldType) → IsUnknown fields []
+none_unknown : (fields : List FieldType) → IsUnknown builtin fields []
 none_unknown fields = ([], refl, tt)
 
 nothing_set : Fitted builtin 1 (node [] [])
@@ -47,7 +47,7 @@ a_group = record { number = 5; wire = 3; payload = []; span = 43 ∷ 44 ∷ [] }
 abbrev a_stranger : Record
 a_stranger = record { number = 9; wire = 0; payload = 1 ∷ []; span = 72 ∷ 1 ∷ [] }
 
-two_unknown : IsUnknown node_fields (43 ∷ 44 ∷ 72 ∷ 1 ∷ [])
+two_unknown : IsUnknown builtin node_fields (43 ∷ 44 ∷ 72 ∷ 1 ∷ [])
 unfolding with_text
 two_unknown = (a_group ∷ a_stranger ∷ [], records_found 100 (a_group ∷ a_stranger ∷ []) (43 ∷ 44 ∷ 72 ∷ 1 ∷ []) refl, (refl, (refl, tt)))
 
@@ -93,7 +93,7 @@ nested : ℕ → Tree
 nested zero = node [] []
 nested (suc n) = node ((6, One (Sub (nested n))) ∷ []) []
 
-nested_fits : (n : ℕ) → MessageFits builtin.types node_fields (nested n)
+nested_fits : (n : ℕ) → MessageFits builtin node_fields (nested n)
 unfolding nested
 nested_fits zero = nothing_set.fits
 nested_fits (suc n) = ((tt, tt, tt, (tt, tt, tt, (tt, tt, tt, (tt, tt, tt, (tt, tt, tt, (tt, nested_fits n, tt, (tt, tt, tt, (tt, tt, tt, tt)))))))), none_unknown node_fields)
@@ -198,7 +198,7 @@ a_count = record { number = 2; wire = 0; payload = 1 ∷ []; span = 16 ∷ 1 ∷
 an_unknown_record_that_fits : Fitted builtin 1 (node [] (16 ∷ 1 ∷ [])) → ⊥
 an_unknown_record_that_fits p =
     let same : p.fits.1.0 ≡ a_count ∷ [] = same_Some p.fits.1.0 (a_count ∷ []) (sym (records_of_spans 100 p.fits.1.0 (16 ∷ 1 ∷ []) p.fits.1.1)) in
-    absurd (false≢true (sym (subst (FitNone node_fields) same p.fits.1.2).0))
+    absurd (false≢true (sym (subst (NoneTaken builtin node_fields) same p.fits.1.2).0))
 
 a_nested_message_that_does_not_fit : Fitted builtin 1 (node ((6, One (Sub (node ((2, One (Number 0)) ∷ []) []))) ∷ []) []) → ⊥
 a_nested_message_that_does_not_fit p = absurd (omega (arith, p.fits.0.3.3.3.3.3.1.0.3.0))

@@ -1,113 +1,35 @@
 -- What each field gathers from records that hold what it takes is what the field may hold.
-use Rattle.std.proofs.Common.{◌≡◌, ◌≢◌, ◌⊎◌, ℕ, zero, suc, ◌+◌, ◌-◌, ◌/◌, ◌%◌, ◌^◌, ◌<◌, ◌≤◌, List, [], ◌∷◌, ◌++◌, map, length, take, Bool, true, false, cond, ◌&&◌, ◌||◌, eqb, Option, None, Some, Result, Ok, Err, refl, sym, ap, ◌∙◌, subst, inl, inr, ⊎_elim, arith, length-take-le, pow-suc, append-nil}
-use Rattle.std.specs.Prelude.{filter, flat_map, IsFalse}
-use Rattle.std.specs.List.{list_any, list_all}
+use Rattle.std.proofs.Common.{◌≡◌, ◌≢◌, ◌⊎◌, ℕ, zero, suc, ◌+◌, ◌-◌, ◌≤◌, List, [], ◌∷◌, ◌++◌, map, take, Bool, true, false, cond, ◌&&◌, eqb, Option, None, Some, Result, Ok, Err, refl, sym, ap, ◌∙◌, subst, ⊎_elim, arith, append-nil}
+use Rattle.std.specs.Prelude.{flat_map, IsFalse}
+use Rattle.std.specs.List.{concat}
 use Rattle.std.specs.Str.{is_utf8}
-use Rattle.std.proofs.lemmas.Bool.{false≢true, eq-eqb, eqb-true, ne_eqb, and_parts, and_left, or_from, or_cases, cond-true, cond-false}
-use Rattle.pb_schema.specs.declared.kind.Kind.{Kind}
-use Rattle.pb_schema.specs.declared.kind.Kind.TheVariants as kinds
+use Rattle.std.proofs.lemmas.Bool.{false≢true, eqb-true, or_from, cond-true, cond-false}
 use Rattle.pb_schema.specs.declared.kind.Card.{Card}
 use Rattle.pb_schema.specs.declared.kind.Card.TheVariants as cards
 use Rattle.pb_schema.specs.declared.kind.FieldType.{FieldType}
-use Rattle.pb_schema.specs.declared.schema.MessageType.{MessageType}
+use Rattle.pb_schema.specs.declared.schema.Schema.{Schema}
 use Rattle.pb_schema.specs.declared.wire_fault.WireKind.TheVariants.{NotUtf8, TooDeep}
 use Rattle.pb_schema.specs.declared.wire_fault.WireFault.{WireFault}
 use Rattle.pb_schema.specs.Reads.{fault, value_read}
-use Rattle.pb_schema.specs.Kinds.{Coding, Shape, Scalar, Characters, Octets, Nested, shape_of, wire_of, is_number, low_32, truth, unzigzag}
-use Rattle.pb_schema.specs.Fits.{fits, fields_of, is_repeated, contents_in, contents_of}
+use Rattle.pb_schema.specs.Kinds.{Coding, ValueType, Scalar, Characters, Octets, Nested, value_type_of, value_wire}
+use Rattle.pb_schema.specs.Cards.{is_repeated, is_member}
+use Rattle.pb_schema.specs.Fits.{takes, fields_of, contents_by, contents_in, contents_of}
 use Rattle.pb_schema.specs.Form.{read_scalar}
-use Rattle.pb_schema.specs.Walk.{read_contents, deeper_left}
+use Rattle.pb_schema.specs.Walk.{in_message, read_contents, deeper_left}
 use Rattle.pb_schema.specs.Records.{Record, Spells, IsRecord, AreRecords}
 use Rattle.pb_schema.specs.Depth.{depth_of, held_levels, values_levels, value_levels, fields_levels}
 use Rattle.pb_schema.specs.Merge.{is_set, sets_member}
 use Rattle.pb_schema.specs.Tree.{Value, Number, Bytes, Sub, Held, Nothing, One, Many, HeldList, value_list, held_list}
-use Rattle.pb_schema.specs.TreeOf.{little_endian, number_in, numbers_from, Nest, fitting, last_of, payloads_of, last_held, single, values_in, unless_default, is_member, of_oneof, last_run, held_by, held_of}
-use Rattle.pb_schema.specs.Fitted.{IsHeldBy, IsAlone, ValueFits, ValuesFit, HeldFits, FieldsFit, MessageFits}
+use Rattle.pb_schema.specs.TreeOf.{pattern_in, elements_from, number_in, Nest, fitting, last_of, payloads_of, last_held, single_by, single, values_by, values_in, unless_default, is_of_oneof, of_oneof, last_run, held_by, held_of}
+use Rattle.pb_schema.specs.Fitted.{IsPatternOf, IsStringOf, IsNestedOf, IsHeldBy, IsAlone, ValueFits, ValuesFit, HeldFits, FieldsFit, MessageFits}
 use Rattle.pb_schema.specs.Lawful.{NumbersAscend}
-use Rattle.pb_schema.proofs.FormLaws.{not_ok, read_bytes_ok}
+use Rattle.pb_schema.proofs.FormLaws.{not_ok}
 use Rattle.pb_schema.proofs.WalkSteps.{walk_left_is}
-use Rattle.pb_schema.proofs.SoundRecords.{Finds, Each, Holds, walk_sound, sound_walk, sound_join, deeper_is}
+use Rattle.pb_schema.proofs.FitsLaws.{IsSized, number_below, front_below, ScalarFacts, scalar_facts, no_start, taken_by, not_taken}
+use Rattle.pb_schema.proofs.Runs.{Each, each_filter, each_same, run_each, runs_differ}
+use Rattle.pb_schema.proofs.SoundRecords.{Finds, Holds, walk_sound, sound_walk, sound_join, deeper_is}
 
--- NUMBERS
-
--- how many numbers a value of a wire type spells
-abbrev most_of : ℕ → ℕ
-most_of zero = 2 ^ 64
-most_of (suc zero) = 2 ^ 64
-most_of (suc (suc wire)) = 2 ^ 32
-
--- as many bytes as a value of the wire type has
-abbrev IsSized : ℕ → List ℕ → Type 0
-IsSized zero s = Unit {0}
-IsSized (suc zero) s = length s ≡ 8
-IsSized (suc (suc wire)) s = length s ≡ 4
-
-little_below : (s : List ℕ) → little_endian s < 256 ^ length s
-little_below [] = omega arith
-little_below (b ∷ s) = omega (arith, pow-suc 256 (length s), little_below s)
-
-number_below : (wire : ℕ) (s : List ℕ) → IsSized wire s → number_in wire s < most_of wire
-number_below zero s p = omega arith
-number_below (suc zero) s p = subst (λ n. little_endian s < 256 ^ n) p (little_below s)
-number_below (suc (suc wire)) s p = subst (λ n. little_endian s < 256 ^ n) p (little_below s)
-
-front_below : (wire : ℕ) (s : List ℕ) (n : ℕ) → read_scalar wire 0 s ≡ Ok n → number_in wire (take n s) < most_of wire
-front_below zero s n e = omega arith
-front_below (suc zero) s n e = read_bytes_ok 8 0 s n e λ same fits. number_below 1 (take n s) (length-take-le n s (omega (arith, same, fits)) ∙ sym same)
-front_below (suc (suc zero)) s n e = let same : 0 ≡ n = cc in subst (λ k. number_in 2 (take k s) < 2 ^ 32) same (omega arith)
-front_below (suc (suc (suc zero))) s n e = let same : 0 ≡ n = cc in subst (λ k. number_in 3 (take k s) < 2 ^ 32) same (omega arith)
-front_below (suc (suc (suc (suc zero)))) s n e = let same : 0 ≡ n = cc in subst (λ k. number_in 4 (take k s) < 2 ^ 32) same (omega arith)
-front_below (suc (suc (suc (suc (suc zero))))) s n e = read_bytes_ok 4 0 s n e λ same fits. number_below 5 (take n s) (length-take-le n s (omega (arith, same, fits)) ∙ sym same)
-front_below (suc (suc (suc (suc (suc (suc wire)))))) s n e = let same : 0 ≡ n = cc in subst (λ k. number_in 6 (take k s) < 2 ^ 32) same (omega arith)
-
--- what the table of kinds says of numbers
-abbrev ScalarFacts : Shape → Type 0
-ScalarFacts (Scalar coding) = (coding.wire ≢ 2) × (coding.wire ≢ 3) × ((v : ℕ) → v < most_of coding.wire → coding.kept v < coding.patterns)
-ScalarFacts Characters = Unit {0}
-ScalarFacts Octets = Unit {0}
-ScalarFacts (Nested type_no) = Unit {0}
-
-truth_below : (v : ℕ) → truth v < 2
-truth_below v = cases (eqb v 0)
-  where
-    cases : (t : Bool) → cond t 0 1 < 2
-    cases true = omega arith
-    cases false = omega arith
-
-unzigzag_below : (patterns v : ℕ) → v < patterns → unzigzag patterns v < patterns
-unzigzag_below patterns v h = cases (eqb (v % 2) 0) refl
-  where
-    cases : (t : Bool) → eqb (v % 2) 0 ≡ t → cond t (v / 2) (patterns - (v + 1) / 2) < patterns
-    cases true e = omega (arith, h)
-    cases false e = let odd : v % 2 ≢ 0 = λ z. absurd (false≢true (sym e ∙ eq-eqb (v % 2) 0 z)) in omega (arith, h, odd)
-
-low_below : (v : ℕ) → low_32 v < 2 ^ 32
-low_below v = omega arith
-
-scalar_facts : (kind : Kind) → ScalarFacts (shape_of kind)
-scalar_facts kinds.Double = (λ e. absurd (omega (arith, e)), λ e. absurd (omega (arith, e)), λ v h. h)
-scalar_facts kinds.Float = (λ e. absurd (omega (arith, e)), λ e. absurd (omega (arith, e)), λ v h. h)
-scalar_facts kinds.Int64 = (λ e. absurd (omega (arith, e)), λ e. absurd (omega (arith, e)), λ v h. h)
-scalar_facts kinds.UInt64 = (λ e. absurd (omega (arith, e)), λ e. absurd (omega (arith, e)), λ v h. h)
-scalar_facts kinds.Int32 = (λ e. absurd (omega (arith, e)), λ e. absurd (omega (arith, e)), λ v h. low_below v)
-scalar_facts kinds.Fixed64 = (λ e. absurd (omega (arith, e)), λ e. absurd (omega (arith, e)), λ v h. h)
-scalar_facts kinds.Fixed32 = (λ e. absurd (omega (arith, e)), λ e. absurd (omega (arith, e)), λ v h. h)
-scalar_facts kinds.Bool = (λ e. absurd (omega (arith, e)), λ e. absurd (omega (arith, e)), λ v h. truth_below v)
-scalar_facts kinds.Text = tt
-scalar_facts (kinds.Message type_no) = tt
-scalar_facts kinds.Bytes = tt
-scalar_facts kinds.UInt32 = (λ e. absurd (omega (arith, e)), λ e. absurd (omega (arith, e)), λ v h. low_below v)
-scalar_facts kinds.Enumeration = (λ e. absurd (omega (arith, e)), λ e. absurd (omega (arith, e)), λ v h. low_below v)
-scalar_facts kinds.SFixed32 = (λ e. absurd (omega (arith, e)), λ e. absurd (omega (arith, e)), λ v h. h)
-scalar_facts kinds.SFixed64 = (λ e. absurd (omega (arith, e)), λ e. absurd (omega (arith, e)), λ v h. h)
-scalar_facts kinds.SInt32 = (λ e. absurd (omega (arith, e)), λ e. absurd (omega (arith, e)), λ v h. unzigzag_below (2 ^ 32) (low_32 v) (low_below v))
-scalar_facts kinds.SInt64 = (λ e. absurd (omega (arith, e)), λ e. absurd (omega (arith, e)), λ v h. unzigzag_below (2 ^ 64) v h)
-
-no_start : (shape : Shape) → ScalarFacts shape → wire_of shape ≢ 3
-no_start (Scalar coding) p = p.1
-no_start Characters p = λ e. absurd (omega (arith, e))
-no_start Octets p = λ e. absurd (omega (arith, e))
-no_start (Nested type_no) p = λ e. absurd (omega (arith, e))
+-- RECORDS THAT A FIELD TAKES
 
 -- the value of a record by itself
 spelled_size : (A : List ℕ → Type 0) (number wire : ℕ) (payload behind : List ℕ) → Spells A number wire payload behind → wire ≢ 2 → wire ≢ 3 → IsSized wire payload
@@ -119,17 +41,15 @@ spelled_size A number (suc (suc (suc (suc zero)))) payload behind p two three = 
 spelled_size A number (suc (suc (suc (suc (suc zero))))) payload behind p two three = p.0
 spelled_size A number (suc (suc (suc (suc (suc (suc wire)))))) payload behind p two three = absurd p
 
--- RECORDS THAT A FIELD TAKES
-
--- a record that fits a field of this shape, which is a list or not, and holds what the field takes
-pub record Taken (types : List MessageType) (left : ℕ) (shape : Shape) (repeated : Bool) (r : Record) : Type 0 where
-  pub wire : (r.wire ≡ wire_of shape) ⊎ ((r.wire ≡ 2) × (repeated ≡ true))
+-- a record that a field of values of this type takes, which is a list or not, and that holds what the field takes
+pub record Taken (schema : Schema) (left : ℕ) (type : ValueType) (repeated : Bool) (r : Record) : Type 0 where
+  pub wire : (r.wire ≡ value_wire type) ⊎ ((r.wire ≡ 2) × (repeated ≡ true))
   pub is : IsRecord (AreRecords left) r
-  pub holds : (tag : ℕ) × (at : ℕ) × Finds (read_contents types (deeper_left types left) tag at r.payload (contents_in shape r.wire))
+  pub holds : (tag : ℕ) × (at : ℕ) × Finds (read_contents schema (deeper_left schema left) tag at r.payload (contents_by type r.wire))
 
--- the first field that fits a record is this one
-abbrev pub Own : List FieldType → FieldType → Type 0
-Own all field = (number wire : ℕ) → fits field number wire ≡ true → contents_of all number wire ≡ contents_in (shape_of field.kind) wire
+-- the first field that takes a record is this one
+abbrev pub Own : Schema → List FieldType → FieldType → Type 0
+Own schema all field = (r : Record) → takes schema field r ≡ true → contents_of schema all r ≡ contents_in field r
 
 abbrev pub EachField : (FieldType → Type 0) → List FieldType → Type 0
 EachField P [] = Unit {0}
@@ -139,36 +59,6 @@ each_field : (P Q R : FieldType → Type 0) (fields : List FieldType) → ((fiel
 each_field P Q R [] f p q = tt
 each_field P Q R (field ∷ fields) f p q = (f field p.0 q.0, each_field P Q R fields f p.1 q.1)
 
-fits_parts : (field : FieldType) (number wire : ℕ) → fits field number wire ≡ true → (field.number ≡ number) × ((wire ≡ wire_of (shape_of field.kind)) ⊎ ((wire ≡ 2) × (is_repeated field.card ≡ true)))
-fits_parts field number wire e =
-    let own = eqb wire (wire_of (shape_of field.kind)) in
-    let two = eqb wire 2 && is_number (shape_of field.kind) in
-    let first = and_parts (eqb field.number number) (own || (two && is_repeated field.card)) e in (
-      eqb-true field.number number first.0,
-      ⊎_elim
-          (λ (p : own ≡ true). inl (eqb-true wire (wire_of (shape_of field.kind)) p))
-          (λ (p : (two && is_repeated field.card) ≡ true).
-          let parts = and_parts two (is_repeated field.card) p in
-          let more = and_parts (eqb wire 2) (is_number (shape_of field.kind)) parts.0 in
-          inr (eqb-true wire 2 more.0, parts.1))
-          (or_cases own (two && is_repeated field.card) first.1),
-    )
-
--- a group fits no field
-pub no_group_fits : (field : FieldType) (number : ℕ) → fits field number 3 ≡ false
-no_group_fits field number = cases (fits field number 3) refl
-  where
-    cases : (t : Bool) → fits field number 3 ≡ t → t ≡ false
-    cases false e = refl
-    cases true e =
-        ⊎_elim
-        (λ (p : 3 ≡ wire_of (shape_of field.kind)). absurd (no_start (shape_of field.kind) (scalar_facts field.kind) (sym p)))
-        (λ (p : (3 ≡ 2) × (is_repeated field.card ≡ true)). absurd (omega (arith, p.0)))
-        (fits_parts field number 3 e).1
-
-pub fits_number : (field : FieldType) (number wire : ℕ) → fits field number wire ≡ true → field.number ≡ number
-fits_number field number wire e = (fits_parts field number wire e).0
-
 -- the numbers of the fields behind are others
 above : (least : ℕ) (fields : List FieldType) → NumbersAscend least fields → EachField (λ field. least ≤ field.number) fields
 above least [] p = tt
@@ -177,120 +67,116 @@ above least (field ∷ fields) p = (p.0, each_field (λ x. field.number + 1 ≤ 
 others : (field : FieldType) (fields : List FieldType) → NumbersAscend (field.number + 1) fields → EachField (λ x. field.number ≢ x.number) fields
 others field fields p = each_field (λ x. field.number + 1 ≤ x.number) (λ x. field.number + 1 ≤ x.number) (λ x. field.number ≢ x.number) fields (λ x a b e. absurd (omega (arith, a, e))) (above (field.number + 1) fields p) (above (field.number + 1) fields p)
 
-own_more : (first field : FieldType) (fields : List FieldType) → first.number ≢ field.number → Own fields field → Own (first ∷ fields) field
-own_more first field fields differ own = λ number wire e.
-    let same = fits_number field number wire e in
-    let no : fits first number wire ≡ false = and_left (eqb first.number number) _ (ne_eqb first.number number (λ q. differ (q ∙ sym same))) in
-    cond-false (fits first number wire) _ _ no ∙ own number wire e
+own_more : (schema : Schema) (first field : FieldType) (fields : List FieldType) → first.number ≢ field.number → Own schema fields field → Own schema (first ∷ fields) field
+own_more schema first field fields differ own = λ r e.
+    let no = not_taken schema first r (λ q. differ (q ∙ sym (taken_by schema field r e).number)) in
+    cond-false (takes schema first r) _ _ no ∙ own r e
 
-pub owns : (least : ℕ) (fields : List FieldType) → NumbersAscend least fields → EachField (Own fields) fields
-owns least [] p = tt
-owns least (field ∷ fields) p = (
-  λ number wire e. cond-true (fits field number wire) _ _ e,
-  each_field (λ x. field.number ≢ x.number) (Own fields) (Own (field ∷ fields)) fields (λ x differ own. own_more field x fields differ own) (others field fields p.2) (owns (field.number + 1) fields p.2),
+pub owns : (schema : Schema) (least : ℕ) (fields : List FieldType) → NumbersAscend least fields → EachField (Own schema fields) fields
+owns schema least [] p = tt
+owns schema least (field ∷ fields) p = (
+  λ r e. cond-true (takes schema field r) _ _ e,
+  each_field (λ x. field.number ≢ x.number) (Own schema fields) (Own schema (field ∷ fields)) fields (λ x differ own. own_more schema field x fields differ own) (others field fields p.2) (owns schema (field.number + 1) fields p.2),
 )
 
 -- a sound record
-abbrev pub Base : List MessageType → ℕ → List FieldType → Record → Type 0
-Base types left all r = IsRecord (AreRecords left) r × Holds types left all r
+abbrev pub Base : Schema → ℕ → List FieldType → Record → Type 0
+Base schema left all r = IsRecord (AreRecords left) r × Holds schema left all r
 
-taken : (types : List MessageType) (left : ℕ) (all : List FieldType) (field : FieldType) (r : Record) → Own all field → Base types left all r → fits field r.number r.wire ≡ true → Taken types left (shape_of field.kind) (is_repeated field.card) r
-taken types left all field r own base e =
-    let parts = fits_parts field r.number r.wire e in
-    let other : r.wire ≢ 3 = λ three. ⊎_elim (λ (p : r.wire ≡ wire_of (shape_of field.kind)). no_start (shape_of field.kind) (scalar_facts field.kind) (sym p ∙ three)) (λ (p : (r.wire ≡ 2) × (is_repeated field.card ≡ true)). absurd (omega (arith, three, p.0))) parts.1 in
+-- a record that this field takes
+abbrev pub TakenIn : Schema → ℕ → FieldType → Record → Type 0
+TakenIn schema left field r = Taken schema left (value_type_of field.kind) (is_repeated field.card) r
+
+taken : (schema : Schema) (left : ℕ) (all : List FieldType) (field : FieldType) (r : Record) → Own schema all field → Base schema left all r → takes schema field r ≡ true → TakenIn schema left field r
+taken schema left all field r own base e =
+    let wire = (taken_by schema field r e).wire in
+    let other : r.wire ≢ 3 = λ three. ⊎_elim (λ (p : r.wire ≡ value_wire (value_type_of field.kind)). no_start (value_type_of field.kind) (scalar_facts field.kind) (sym p ∙ three)) (λ (p : (r.wire ≡ 2) × (is_repeated field.card ≡ true)). absurd (omega (arith, three, p.0))) wire in
     let holds = base.1 other in
     record {
-      wire = parts.1;
+      wire = wire;
       is = base.0;
-      holds = (holds.0, holds.1, subst (λ c. Finds (read_contents types (deeper_left types left) holds.0 holds.1 r.payload c)) (own r.number r.wire e) holds.2);
+      holds = (holds.0, holds.1, subst (λ c. Finds (read_contents schema (deeper_left schema left) holds.0 holds.1 r.payload c)) (own r e) holds.2);
     }
 
-pub each_filter : (P : Record → Type 0) (test : Record → Bool) (rs : List Record) → Each P rs → Each (λ r. P r × (test r ≡ true)) (filter test rs)
-each_filter P test [] p = tt
-each_filter P test (r ∷ rs) p = pick (each_filter P test rs p.1) (test r) refl
-  where
-    pick : Each (λ r. P r × (test r ≡ true)) (filter test rs) → (t : Bool) → test r ≡ t → Each (λ r. P r × (test r ≡ true)) (cond t (r ∷ filter test rs) (filter test rs))
-    pick more true e = ((p.0, e), more)
-    pick more false e = more
+all_taken : (schema : Schema) (left : ℕ) (all : List FieldType) (field : FieldType) (rs : List Record) → Own schema all field → Each (λ r. Base schema left all r × (takes schema field r ≡ true)) rs → Each (TakenIn schema left field) rs
+all_taken schema left all field rs own p =
+    each_same (λ r. Base schema left all r × (takes schema field r ≡ true)) (TakenIn schema left field) rs (λ r q. taken schema left all field r own q.0 q.1) p
 
-pub each_same : (P Q : Record → Type 0) (rs : List Record) → ((r : Record) → P r → Q r) → Each P rs → Each Q rs
-each_same P Q [] f p = tt
-each_same P Q (r ∷ rs) f p = (f r p.0, each_same P Q rs f p.1)
+pub fitting_taken : (schema : Schema) (left : ℕ) (all : List FieldType) (field : FieldType) (rs : List Record) → Own schema all field → Each (Base schema left all) rs → Each (TakenIn schema left field) (fitting schema field rs)
+fitting_taken schema left all field rs own p = all_taken schema left all field (fitting schema field rs) own (each_filter (Base schema left all) (takes schema field) rs p)
 
-fitting_taken : (types : List MessageType) (left : ℕ) (all : List FieldType) (field : FieldType) (rs : List Record) → Own all field → Each (Base types left all) rs → Each (Taken types left (shape_of field.kind) (is_repeated field.card)) (fitting field rs)
-fitting_taken types left all field rs own p =
-    each_same (λ r. Base types left all r × (fits field r.number r.wire ≡ true)) (Taken types left (shape_of field.kind) (is_repeated field.card)) (fitting field rs) (λ r q. taken types left all field r own q.0 q.1)
-    (each_filter (Base types left all) (λ r. fits field r.number r.wire) rs p)
-
--- the records of a run
-all_taken : (types : List MessageType) (left : ℕ) (all : List FieldType) (field : FieldType) (rs : List Record) → Own all field → Each (Base types left all) rs → list_all (λ r. fits field r.number r.wire) rs ≡ true → Each (Taken types left (shape_of field.kind) (is_repeated field.card)) rs
-all_taken types left all field [] own p e = tt
-all_taken types left all field (r ∷ rs) own p e =
-    let parts = and_parts (fits field r.number r.wire) (list_all (λ r. fits field r.number r.wire) rs) e in
-    (taken types left all field r own p.0 parts.0, all_taken types left all field rs own p.1 parts.1)
-
-run_taken : (types : List MessageType) (left : ℕ) (all : List FieldType) (field : FieldType) (rs : List Record) → Own all field → Each (Base types left all) rs → Each (Taken types left (shape_of field.kind) (is_repeated field.card)) (last_run field rs)
-run_taken types left all field [] own p = tt
-run_taken types left all field (r ∷ rs) own p = pick (run_taken types left all field rs own p.1) (list_all (λ q. fits field q.number q.wire) (r ∷ rs)) refl
-  where
-    pick : Each (Taken types left (shape_of field.kind) (is_repeated field.card)) (last_run field rs) → (t : Bool) → list_all (λ q. fits field q.number q.wire) (r ∷ rs) ≡ t → Each (Taken types left (shape_of field.kind) (is_repeated field.card)) (cond t (r ∷ rs) (last_run field rs))
-    pick more true e = all_taken types left all field (r ∷ rs) own p e
-    pick more false e = more
-
-oneof_taken : (types : List MessageType) (left : ℕ) (all : List FieldType) (field : FieldType) (oneof : ℕ) (rs : List Record) → Own all field → Each (Base types left all) rs → Each (Taken types left (shape_of field.kind) (is_repeated field.card)) (last_run field (of_oneof all oneof rs))
-oneof_taken types left all field oneof rs own p =
-    let test : Record → Bool = λ r. list_any (λ field. is_member oneof field.card && fits field r.number r.wire) all in
-    run_taken types left all field (of_oneof all oneof rs) own (each_same (λ r. Base types left all r × (test r ≡ true)) (Base types left all) (of_oneof all oneof rs) (λ r q. q.0) (each_filter (Base types left all) test rs p))
-
--- of two fields of different numbers one has no run at the end
-run_whole : (field : FieldType) (rs : List Record) → list_all (λ q. fits field q.number q.wire) rs ≡ true → last_run field rs ≡ rs
-run_whole field [] e = refl
-run_whole field (r ∷ rs) e = cond-true (list_all (λ q. fits field q.number q.wire) (r ∷ rs)) _ _ e
-
-runs_differ : (f g : FieldType) → f.number ≢ g.number → (rs : List Record) → (last_run f rs ≡ []) ⊎ (last_run g rs ≡ [])
-runs_differ f g differ [] = inl refl
-runs_differ f g differ (r ∷ rs) = cases (runs_differ f g differ rs) (list_all (λ q. fits f q.number q.wire) (r ∷ rs)) (list_all (λ q. fits g q.number q.wire) (r ∷ rs)) refl refl
-  where
-    tail : (h : FieldType) → list_all (λ q. fits h q.number q.wire) (r ∷ rs) ≡ true → (last_run h rs ≡ rs) × (fits h r.number r.wire ≡ true)
-    tail h e = let parts = and_parts (fits h r.number r.wire) (list_all (λ q. fits h q.number q.wire) rs) e in (run_whole h rs parts.1, parts.0)
-
-    rest : (h k : FieldType) → list_all (λ q. fits h q.number q.wire) (r ∷ rs) ≡ true → (last_run h rs ≡ []) ⊎ (last_run k rs ≡ []) → last_run k rs ≡ []
-    rest h k e p = ⊎_elim (λ (a : last_run h rs ≡ []). ap (last_run k) (sym (tail h e).0 ∙ a)) (λ (b : last_run k rs ≡ []). b) p
-
-    swap : (last_run f rs ≡ []) ⊎ (last_run g rs ≡ []) → (last_run g rs ≡ []) ⊎ (last_run f rs ≡ [])
-    swap p = ⊎_elim (λ (a : last_run f rs ≡ []). inr a) (λ (b : last_run g rs ≡ []). inl b) p
-
-    cases : (last_run f rs ≡ []) ⊎ (last_run g rs ≡ []) → (t u : Bool) → list_all (λ q. fits f q.number q.wire) (r ∷ rs) ≡ t → list_all (λ q. fits g q.number q.wire) (r ∷ rs) ≡ u → (cond t (r ∷ rs) (last_run f rs) ≡ []) ⊎ (cond u (r ∷ rs) (last_run g rs) ≡ [])
-    cases more true true a b = absurd (differ (fits_number f r.number r.wire (tail f a).1 ∙ sym (fits_number g r.number r.wire (tail g b).1)))
-    cases more true false a b = inr (rest f g a more)
-    cases more false true a b = inl (rest g f b (swap more))
-    cases more false false a b = more
+pub oneof_taken : (schema : Schema) (left : ℕ) (all : List FieldType) (field : FieldType) (oneof : ℕ) (rs : List Record) → Own schema all field → Each (Base schema left all) rs → Each (TakenIn schema left field) (last_run schema field (of_oneof schema all oneof rs))
+oneof_taken schema left all field oneof rs own p =
+    let members = of_oneof schema all oneof rs in
+    let test = is_of_oneof schema all oneof in
+    let based = each_same (λ r. Base schema left all r × (test r ≡ true)) (Base schema left all) members (λ r q. q.0) (each_filter (Base schema left all) test rs p) in
+    all_taken schema left all field (last_run schema field members) own (run_each schema field (Base schema left all) members based)
 
 -- WHAT A FIELD HOLDS
 
 -- a message that is read with so many levels left
-abbrev pub Fine : List MessageType → ℕ → ℕ → List ℕ → Type 0
-Fine types left type_no payload = (tag : ℕ) × (at : ℕ) × Finds (deeper_left types left tag (fields_of types type_no) None at payload)
+abbrev pub Fine : Schema → ℕ → ℕ → List ℕ → Type 0
+Fine schema left type_no payload = (tag : ℕ) × (at : ℕ) × Finds (deeper_left schema left tag (in_message (fields_of schema type_no)) at payload)
 
--- what it is read as fits
-abbrev pub NestFits : List MessageType → ℕ → Nest → Type 0
-NestFits types left nest = (type_no : ℕ) (payload : List ℕ) → Fine types left type_no payload → MessageFits types (fields_of types type_no) (nest type_no payload) × (suc (depth_of (nest type_no payload)) ≤ left)
+-- each of some payloads is
+abbrev pub AllFine : Schema → ℕ → ℕ → List (List ℕ) → Type 0
+AllFine schema left type_no [] = Unit {0}
+AllFine schema left type_no (s ∷ more) = Fine schema left type_no s × AllFine schema left type_no more
 
-pub fine_join : (types : List MessageType) (left type_no : ℕ) (x y : List ℕ) → Fine types left type_no x → Fine types left type_no y → Fine types left type_no (x ++ y)
-fine_join types zero type_no x y p q = not_ok (record { kind = TooDeep; byte = p.0 }) p.2.0 p.2.1
-fine_join types (suc left) type_no x y p q =
-    let fields = fields_of types type_no in
-    let first = walk_sound types left fields 0 p.1 x p.2.0 (sym (walk_left_is types left p.0 fields None p.1 x) ∙ p.2.1) in
-    let second = walk_sound types left fields 0 q.1 y q.2.0 (sym (walk_left_is types left q.0 fields None q.1 y) ∙ q.2.1) in
-    let both = sound_walk types left fields 0 (x ++ y) (sound_join types left fields x y first second) in
-    (0, 0, (both.0, walk_left_is types left 0 fields None 0 (x ++ y) ∙ both.1))
+pub fine_join : (schema : Schema) (left type_no : ℕ) (x y : List ℕ) → Fine schema left type_no x → Fine schema left type_no y → Fine schema left type_no (x ++ y)
+fine_join schema zero type_no x y p q = not_ok (record { kind = TooDeep; byte = p.0 }) p.2.0 p.2.1
+fine_join schema (suc left) type_no x y p q =
+    let fields = fields_of schema type_no in
+    let inside = in_message fields in
+    let first = walk_sound schema left fields 0 p.1 x p.2.0 (sym (walk_left_is schema left p.0 inside p.1 x) ∙ p.2.1) in
+    let second = walk_sound schema left fields 0 q.1 y q.2.0 (sym (walk_left_is schema left q.0 inside q.1 y) ∙ q.2.1) in
+    let both = sound_walk schema left fields 0 (x ++ y) (sound_join schema left fields x y first second) in
+    (0, 0, (both.0, walk_left_is schema left 0 inside 0 (x ++ y) ∙ both.1))
 
--- what a field holds fits its shape, and is nested no deeper than what is left
-abbrev pub Well : List MessageType → ℕ → Shape → Held → Type 0
-Well types left shape held = HeldFits types shape held × (held_levels held ≤ left)
+-- one behind the other they are too
+pub fine_concat : (schema : Schema) (left type_no : ℕ) (s : List ℕ) (more : List (List ℕ)) → AllFine schema left type_no (s ∷ more) → Fine schema left type_no (concat (s ∷ more))
+fine_concat schema left type_no s [] p = subst (Fine schema left type_no) (sym (append-nil s)) p.0
+fine_concat schema left type_no s (t ∷ more) p = fine_join schema left type_no s (concat (t ∷ more)) p.0 (fine_concat schema left type_no t more p.1)
 
-nothing_well : (types : List MessageType) (left : ℕ) (shape : Shape) → Well types left shape Nothing
-nothing_well types left shape = (tt, omega arith)
+-- what they are read as fits
+abbrev pub NestFits : Schema → ℕ → Nest (List ℕ) → Type 0
+NestFits schema left nest = (type_no : ℕ) (s : List ℕ) (more : List (List ℕ)) → AllFine schema left type_no (s ∷ more) → MessageFits schema (fields_of schema type_no) (nest type_no (s ∷ more)) × (suc (depth_of (nest type_no (s ∷ more))) ≤ left)
+
+-- a value of this type, nested no deeper than what is left
+abbrev Sized : Schema → ℕ → ValueType → Value → Type 0
+Sized schema left type (Number p) = IsPatternOf type p
+Sized schema left type (Bytes s) = IsStringOf type s
+Sized schema left type (Sub t) = IsNestedOf (λ fields. MessageFits schema fields t) schema type × (suc (depth_of t) ≤ left)
+
+abbrev EachValue : Schema → ℕ → ValueType → List Value → Type 0
+EachValue schema left type [] = Unit {0}
+EachValue schema left type (v ∷ vs) = Sized schema left type v × EachValue schema left type vs
+
+-- what a field holds of one value fits, and is nested no deeper than what is left
+abbrev Single : Schema → ℕ → ValueType → Held → Type 0
+Single schema left type Nothing = Unit {0}
+Single schema left type (One value) = Sized schema left type value
+Single schema left type (Many _) = ⊥
+
+abbrev Well : Schema → ℕ → FieldType → Held → Type 0
+Well schema left field held = HeldFits schema field held × (held_levels held ≤ left)
+
+value_well : (schema : Schema) (left : ℕ) (field : FieldType) (value : Value) → Sized schema left (value_type_of field.kind) value → ValueFits schema field value × (value_levels value ≤ left)
+value_well schema left field (Number n) p = (p, omega arith)
+value_well schema left field (Bytes s) p = (p, omega arith)
+value_well schema left field (Sub t) p = p
+
+single_well : (schema : Schema) (left : ℕ) (field : FieldType) (held : Held) → Single schema left (value_type_of field.kind) held → Well schema left field held
+single_well schema left field Nothing p = (tt, omega arith)
+single_well schema left field (One value) p = value_well schema left field value p
+single_well schema left field (Many _) p = absurd p
+
+values_well : (schema : Schema) (left : ℕ) (field : FieldType) (vs : List Value) → EachValue schema left (value_type_of field.kind) vs → ValuesFit schema field (value_list vs) × (values_levels (value_list vs) ≤ left)
+values_well schema left field [] p = (tt, omega arith)
+values_well schema left field (v ∷ vs) p =
+    let first = value_well schema left field v p.0 in
+    let rest = values_well schema left field vs p.1 in
+    ((first.0, rest.0), omega (arith, first.1, rest.1))
 
 abbrev LastIs : (Record → Type 0) → Option Record → Type 0
 LastIs P None = Unit {0}
@@ -301,90 +187,68 @@ last_is P [] p = tt
 last_is P (r ∷ []) p = p.0
 last_is P (r ∷ q ∷ rs) p = last_is P (q ∷ rs) p.1
 
-last_well : (types : List MessageType) (left : ℕ) (shape : Shape) (P : Record → Type 0) (value : Record → Value) (rs : List Record) → Each P rs → ((r : Record) → P r → Well types left shape (One (value r))) → Well types left shape (last_held value rs)
-last_well types left shape P value rs p f = cases (last_of rs) (last_is P rs p)
+last_sized : (schema : Schema) (left : ℕ) (type : ValueType) (P : Record → Type 0) (value : Record → Value) (rs : List Record) → Each P rs → ((r : Record) → P r → Sized schema left type (value r)) → Single schema left type (last_held value rs)
+last_sized schema left type P value rs p f = cases (last_of rs) (last_is P rs p)
   where
-    cases : (o : Option Record) → LastIs P o → Well types left shape (elim o [ None ↦ Nothing | Some r ↦ One (value r) ])
-    cases None q = nothing_well types left shape
+    cases : (o : Option Record) → LastIs P o → Single schema left type (elim o [ None ↦ Nothing | Some r ↦ One (value r) ])
+    cases None q = tt
     cases (Some r) q = f r q
 
 -- a single record has the wire type of its kind
-alone_wire : (r : Record) (shape : Shape) → (r.wire ≡ wire_of shape) ⊎ ((r.wire ≡ 2) × (false ≡ true)) → r.wire ≡ wire_of shape
-alone_wire r shape p = ⊎_elim (λ (a : r.wire ≡ wire_of shape). a) (λ (b : (r.wire ≡ 2) × (false ≡ true)). absurd (false≢true b.1)) p
+alone_wire : (r : Record) (type : ValueType) → (r.wire ≡ value_wire type) ⊎ ((r.wire ≡ 2) × (false ≡ true)) → r.wire ≡ value_wire type
+alone_wire r type p = ⊎_elim (λ (a : r.wire ≡ value_wire type). a) (λ (b : (r.wire ≡ 2) × (false ≡ true)). absurd (false≢true b.1)) p
 
 text_holds : (at : ℕ) (s : List ℕ) (b : Bool) → Finds (cond b (Ok at) (fault NotUtf8 at)) → b ≡ true
 text_holds at s true found = refl
 text_holds at s false found = not_ok (record { kind = NotUtf8; byte = at }) found.0 found.1
 
-message_fine : (types : List MessageType) (left : ℕ) (repeated : Bool) (type_no : ℕ) (r : Record) → Taken types left (Nested type_no) repeated r → Fine types left type_no r.payload
-message_fine types left repeated type_no r p = deeper_is types (deeper_left types left) p.holds.0 p.holds.1 r.payload type_no p.holds.2 λ stop. (p.holds.0, p.holds.1, stop)
+message_fine : (schema : Schema) (left : ℕ) (repeated : Bool) (type_no : ℕ) (r : Record) → Taken schema left (Nested type_no) repeated r → Fine schema left type_no r.payload
+message_fine schema left repeated type_no r p = deeper_is schema (deeper_left schema left) p.holds.0 p.holds.1 r.payload type_no p.holds.2 λ stop. (p.holds.0, p.holds.1, stop)
 
-messages_fine : (types : List MessageType) (left : ℕ) (repeated : Bool) (type_no : ℕ) (r : Record) (rs : List Record) → Each (Taken types left (Nested type_no) repeated) (r ∷ rs) → Fine types left type_no (payloads_of (r ∷ rs))
-messages_fine types left repeated type_no r [] p = subst (Fine types left type_no) (sym (append-nil r.payload)) (message_fine types left repeated type_no r p.0)
-messages_fine types left repeated type_no r (q ∷ rs) p = fine_join types left type_no r.payload (payloads_of (q ∷ rs)) (message_fine types left repeated type_no r p.0) (messages_fine types left repeated type_no q rs p.1)
+pub messages_fine : (schema : Schema) (left : ℕ) (repeated : Bool) (type_no : ℕ) (rs : List Record) → Each (Taken schema left (Nested type_no) repeated) rs → AllFine schema left type_no (payloads_of rs)
+messages_fine schema left repeated type_no [] p = tt
+messages_fine schema left repeated type_no (r ∷ rs) p = (message_fine schema left repeated type_no r p.0, messages_fine schema left repeated type_no rs p.1)
 
-single_well : (types : List MessageType) (left : ℕ) (nest : Nest) → NestFits types left nest → (shape : Shape) → ScalarFacts shape → (rs : List Record) → Each (Taken types left shape false) rs → Well types left shape (single nest shape rs)
-single_well types left nest fine (Scalar coding) facts rs p = last_well types left (Scalar coding) (Taken types left (Scalar coding) false) (λ r. Number (coding.kept (number_in coding.wire r.payload))) rs p λ r q.
+single_sized : (schema : Schema) (left : ℕ) (nest : Nest (List ℕ)) → NestFits schema left nest → (type : ValueType) → ScalarFacts type → (rs : List Record) → Each (Taken schema left type false) rs → Single schema left type (single_by nest type rs)
+single_sized schema left nest fine (Scalar coding) facts rs p = last_sized schema left (Scalar coding) (Taken schema left (Scalar coding) false) (λ r. Number (pattern_in coding r.payload)) rs p λ r q.
     let wire : r.wire ≡ coding.wire = alone_wire r (Scalar coding) q.wire in
     let sized = spelled_size (AreRecords left) r.number coding.wire r.payload q.is.1 (subst (λ w. Spells (AreRecords left) r.number w r.payload q.is.1) wire q.is.3) facts.0 facts.1 in
-    (facts.2 (number_in coding.wire r.payload) (number_below coding.wire r.payload sized), omega arith)
-single_well types left nest fine Characters facts rs p = last_well types left Characters (Taken types left Characters false) (λ r. Bytes r.payload) rs p λ r q.
-    (text_holds q.holds.1 r.payload (is_utf8 r.payload) q.holds.2, omega arith)
-single_well types left nest fine Octets facts rs p = last_well types left Octets (Taken types left Octets false) (λ r. Bytes r.payload) rs p λ r q. (tt, omega arith)
-single_well types left nest fine (Nested type_no) facts [] p = (tt, omega arith)
-single_well types left nest fine (Nested type_no) facts (r ∷ rs) p = fine type_no (payloads_of (r ∷ rs)) (messages_fine types left false type_no r rs p)
+    facts.2 (number_in coding.wire r.payload) (number_below coding.wire r.payload sized)
+single_sized schema left nest fine Characters facts rs p = last_sized schema left Characters (Taken schema left Characters false) (λ r. Bytes r.payload) rs p λ r q. text_holds q.holds.1 r.payload (is_utf8 r.payload) q.holds.2
+single_sized schema left nest fine Octets facts rs p = last_sized schema left Octets (Taken schema left Octets false) (λ r. Bytes r.payload) rs p λ r q. tt
+single_sized schema left nest fine (Nested type_no) facts [] p = tt
+single_sized schema left nest fine (Nested type_no) facts (r ∷ rs) p = fine type_no r.payload (payloads_of rs) (messages_fine schema left false type_no (r ∷ rs) p)
 
 -- the values of a list
-abbrev EachValue : List MessageType → ℕ → Shape → List Value → Type 0
-EachValue types left shape [] = Unit {0}
-EachValue types left shape (v ∷ vs) = (ValueFits types shape v × (value_levels v ≤ left)) × EachValue types left shape vs
+values_join : (schema : Schema) (left : ℕ) (type : ValueType) (xs ys : List Value) → EachValue schema left type xs → EachValue schema left type ys → EachValue schema left type (xs ++ ys)
+values_join schema left type [] ys p q = q
+values_join schema left type (x ∷ xs) ys p q = (p.0, values_join schema left type xs ys p.1 q)
 
-values_join : (types : List MessageType) (left : ℕ) (shape : Shape) (xs ys : List Value) → EachValue types left shape xs → EachValue types left shape ys → EachValue types left shape (xs ++ ys)
-values_join types left shape [] ys p q = q
-values_join types left shape (x ∷ xs) ys p q = (p.0, values_join types left shape xs ys p.1 q)
-
-values_fit : (types : List MessageType) (left : ℕ) (shape : Shape) (vs : List Value) → EachValue types left shape vs → ValuesFit types shape (value_list vs) × (values_levels (value_list vs) ≤ left)
-values_fit types left shape [] p = (tt, omega arith)
-values_fit types left shape (v ∷ vs) p = let rest = values_fit types left shape vs p.1 in ((p.0.0, rest.0), omega (arith, p.0.1, rest.1))
-
-numbers_fit : (types : List MessageType) (left : ℕ) (coding : Coding) → ScalarFacts (Scalar coding) → (skip : ℕ) (s : List ℕ) → EachValue types left (Scalar coding) (map (λ v. Number (coding.kept v)) (numbers_from coding.wire skip s))
-numbers_fit types left coding facts skip [] = tt
-numbers_fit types left coding facts (suc skip) (b ∷ s) = numbers_fit types left coding facts skip s
-numbers_fit types left coding facts zero (b ∷ s) = cases (λ n. numbers_fit types left coding facts (n - 1) s) (read_scalar coding.wire 0 (b ∷ s)) refl
+numbers_sized : (schema : Schema) (left : ℕ) (coding : Coding) → ScalarFacts (Scalar coding) → (skip : ℕ) (s : List ℕ) → EachValue schema left (Scalar coding) (map (λ e. Number (pattern_in coding e)) (elements_from coding.wire skip s))
+numbers_sized schema left coding facts skip [] = tt
+numbers_sized schema left coding facts (suc skip) (b ∷ s) = numbers_sized schema left coding facts skip s
+numbers_sized schema left coding facts zero (b ∷ s) = cases (λ n. numbers_sized schema left coding facts (n - 1) s) (read_scalar coding.wire 0 (b ∷ s)) refl
   where
-    cases : ((n : ℕ) → EachValue types left (Scalar coding) (map (λ v. Number (coding.kept v)) (numbers_from coding.wire (n - 1) s))) → (r : Result ℕ WireFault) → read_scalar coding.wire 0 (b ∷ s) ≡ r → EachValue types left (Scalar coding) (map (λ v. Number (coding.kept v)) (elim (value_read r) [ None ↦ [] | Some n ↦ number_in coding.wire (take n (b ∷ s)) ∷ numbers_from coding.wire (n - 1) s ]))
-    cases more (Ok n) e = ((facts.2 (number_in coding.wire (take n (b ∷ s))) (front_below coding.wire (b ∷ s) n e), omega arith), more n)
+    cases : ((n : ℕ) → EachValue schema left (Scalar coding) (map (λ e. Number (pattern_in coding e)) (elements_from coding.wire (n - 1) s))) → (r : Result ℕ WireFault) → read_scalar coding.wire 0 (b ∷ s) ≡ r → EachValue schema left (Scalar coding) (map (λ e. Number (pattern_in coding e)) (elim (value_read r) [ None ↦ [] | Some n ↦ take n (b ∷ s) ∷ elements_from coding.wire (n - 1) s ]))
+    cases more (Ok n) e = (facts.2 (number_in coding.wire (take n (b ∷ s))) (front_below coding.wire (b ∷ s) n e), more n)
     cases more (Err d) e = tt
 
-record_values : (types : List MessageType) (left : ℕ) (nest : Nest) → NestFits types left nest → (shape : Shape) → ScalarFacts shape → (r : Record) → Taken types left shape true r → EachValue types left shape (values_in nest shape r)
-record_values types left nest fine (Scalar coding) facts r p = numbers_fit types left coding facts 0 r.payload
-record_values types left nest fine Characters facts r p = ((text_holds p.holds.1 r.payload (is_utf8 r.payload) p.holds.2, omega arith), tt)
-record_values types left nest fine Octets facts r p = ((tt, omega arith), tt)
-record_values types left nest fine (Nested type_no) facts r p = (fine type_no r.payload (message_fine types left true type_no r p), tt)
+record_values : (schema : Schema) (left : ℕ) (nest : Nest (List ℕ)) → NestFits schema left nest → (type : ValueType) → ScalarFacts type → (r : Record) → Taken schema left type true r → EachValue schema left type (values_by nest type r)
+record_values schema left nest fine (Scalar coding) facts r p = numbers_sized schema left coding facts 0 r.payload
+record_values schema left nest fine Characters facts r p = (text_holds p.holds.1 r.payload (is_utf8 r.payload) p.holds.2, tt)
+record_values schema left nest fine Octets facts r p = (tt, tt)
+record_values schema left nest fine (Nested type_no) facts r p = (fine type_no r.payload [] (message_fine schema left true type_no r p, tt), tt)
 
-all_values : (types : List MessageType) (left : ℕ) (nest : Nest) → NestFits types left nest → (shape : Shape) → ScalarFacts shape → (rs : List Record) → Each (Taken types left shape true) rs → EachValue types left shape (flat_map (values_in nest shape) rs)
-all_values types left nest fine shape facts [] p = tt
-all_values types left nest fine shape facts (r ∷ rs) p = values_join types left shape (values_in nest shape r) (flat_map (values_in nest shape) rs) (record_values types left nest fine shape facts r p.0) (all_values types left nest fine shape facts rs p.1)
+all_values : (schema : Schema) (left : ℕ) (nest : Nest (List ℕ)) → NestFits schema left nest → (field : FieldType) → (rs : List Record) → Each (Taken schema left (value_type_of field.kind) true) rs → EachValue schema left (value_type_of field.kind) (flat_map (values_in schema nest field) rs)
+all_values schema left nest fine field [] p = tt
+all_values schema left nest fine field (r ∷ rs) p =
+    values_join schema left (value_type_of field.kind) (values_in schema nest field r) (flat_map (values_in schema nest field) rs)
+    (record_values schema left nest fine (value_type_of field.kind) (scalar_facts field.kind) r p.0)
+    (all_values schema left nest fine field rs p.1)
 
 -- CARDS
 
-abbrev NotMany : Held → Type 0
-NotMany Nothing = Unit {0}
-NotMany (One value) = Unit {0}
-NotMany (Many _) = ⊥
-
-last_not_many : (value : Record → Value) (o : Option Record) → NotMany (elim o [ None ↦ Nothing | Some r ↦ One (value r) ])
-last_not_many value None = tt
-last_not_many value (Some r) = tt
-
-single_not_many : (nest : Nest) (shape : Shape) (rs : List Record) → NotMany (single nest shape rs)
-single_not_many nest (Scalar coding) rs = last_not_many (λ r. Number (coding.kept (number_in coding.wire r.payload))) (last_of rs)
-single_not_many nest Characters rs = last_not_many (λ r. Bytes r.payload) (last_of rs)
-single_not_many nest Octets rs = last_not_many (λ r. Bytes r.payload) (last_of rs)
-single_not_many nest (Nested type_no) [] = tt
-single_not_many nest (Nested type_no) (r ∷ rs) = tt
-
-single_none : (nest : Nest) (shape : Shape) → single nest shape [] ≡ Nothing
+single_none : (nest : Nest (List ℕ)) (type : ValueType) → single_by nest type [] ≡ Nothing
 single_none nest (Scalar coding) = refl
 single_none nest Characters = refl
 single_none nest Octets = refl
@@ -393,70 +257,74 @@ single_none nest (Nested type_no) = refl
 not_nil : (b : ℕ) (s : List ℕ) → b ∷ s ≢ []
 not_nil b s e = cc
 
-implicit_held : (held : Held) → NotMany held → IsHeldBy cards.Implicit (unless_default held)
-implicit_held Nothing p = tt
-implicit_held (One (Number zero)) p = tt
-implicit_held (One (Number (suc n))) p = omega arith
-implicit_held (One (Bytes [])) p = tt
-implicit_held (One (Bytes (b ∷ s))) p = not_nil b s
-implicit_held (One (Sub t)) p = tt
-implicit_held (Many _) p = absurd p
+implicit_held : (schema : Schema) (left : ℕ) (type : ValueType) (held : Held) → Single schema left type held → IsHeldBy cards.Implicit (unless_default held)
+implicit_held schema left type Nothing p = tt
+implicit_held schema left type (One (Number zero)) p = tt
+implicit_held schema left type (One (Number (suc n))) p = omega arith
+implicit_held schema left type (One (Bytes [])) p = tt
+implicit_held schema left type (One (Bytes (b ∷ s))) p = not_nil b s
+implicit_held schema left type (One (Sub t)) p = tt
+implicit_held schema left type (Many _) p = absurd p
 
-implicit_well : (types : List MessageType) (left : ℕ) (shape : Shape) (held : Held) → Well types left shape held → Well types left shape (unless_default held)
-implicit_well types left shape Nothing p = p
-implicit_well types left shape (One (Number zero)) p = nothing_well types left shape
-implicit_well types left shape (One (Number (suc n))) p = p
-implicit_well types left shape (One (Bytes [])) p = nothing_well types left shape
-implicit_well types left shape (One (Bytes (b ∷ s))) p = p
-implicit_well types left shape (One (Sub t)) p = p
-implicit_well types left shape (Many _) p = p
+implicit_single : (schema : Schema) (left : ℕ) (type : ValueType) (held : Held) → Single schema left type held → Single schema left type (unless_default held)
+implicit_single schema left type Nothing p = p
+implicit_single schema left type (One (Number zero)) p = tt
+implicit_single schema left type (One (Number (suc n))) p = p
+implicit_single schema left type (One (Bytes [])) p = tt
+implicit_single schema left type (One (Bytes (b ∷ s))) p = p
+implicit_single schema left type (One (Sub t)) p = p
+implicit_single schema left type (Many _) p = p
 
-explicit_held : (held : Held) → NotMany held → IsHeldBy cards.Explicit held
-explicit_held Nothing p = tt
-explicit_held (One value) p = tt
-explicit_held (Many _) p = absurd p
+explicit_held : (schema : Schema) (left : ℕ) (type : ValueType) (held : Held) → Single schema left type held → IsHeldBy cards.Explicit held
+explicit_held schema left type Nothing p = tt
+explicit_held schema left type (One value) p = tt
+explicit_held schema left type (Many _) p = absurd p
 
-member_held : (oneof : ℕ) (held : Held) → NotMany held → IsHeldBy (cards.Member oneof) held
-member_held oneof Nothing p = tt
-member_held oneof (One value) p = tt
-member_held oneof (Many _) p = absurd p
+member_held : (schema : Schema) (left : ℕ) (type : ValueType) (oneof : ℕ) (held : Held) → Single schema left type held → IsHeldBy (cards.Member oneof) held
+member_held schema left type oneof Nothing p = tt
+member_held schema left type oneof (One value) p = tt
+member_held schema left type oneof (Many _) p = absurd p
 
 -- a field by itself
-field_well : (types : List MessageType) (left : ℕ) (nest : Nest) → NestFits types left nest → (all : List FieldType) (rs : List Record) → Each (Base types left all) rs → (field : FieldType) → Own all field → (card : Card) → field.card ≡ card → IsHeldBy card (held_by nest all rs field card) × Well types left (shape_of field.kind) (held_by nest all rs field card)
-field_well types left nest fine all rs base field own cards.Implicit e =
-    let shape = shape_of field.kind in
-    let takes = subst (λ b. Each (Taken types left shape b) (fitting field rs)) (ap is_repeated e) (fitting_taken types left all field rs own base) in
-    (implicit_held (single nest shape (fitting field rs)) (single_not_many nest shape (fitting field rs)), implicit_well types left shape (single nest shape (fitting field rs)) (single_well types left nest fine shape (scalar_facts field.kind) (fitting field rs) takes))
-field_well types left nest fine all rs base field own cards.Explicit e =
-    let shape = shape_of field.kind in
-    let takes = subst (λ b. Each (Taken types left shape b) (fitting field rs)) (ap is_repeated e) (fitting_taken types left all field rs own base) in
-    (explicit_held (single nest shape (fitting field rs)) (single_not_many nest shape (fitting field rs)), single_well types left nest fine shape (scalar_facts field.kind) (fitting field rs) takes)
-field_well types left nest fine all rs base field own (cards.Member oneof) e =
-    let shape = shape_of field.kind in
-    let run = last_run field (of_oneof all oneof rs) in
-    let takes = subst (λ b. Each (Taken types left shape b) run) (ap is_repeated e) (oneof_taken types left all field oneof rs own base) in
-    (member_held oneof (single nest shape run) (single_not_many nest shape run), single_well types left nest fine shape (scalar_facts field.kind) run takes)
-field_well types left nest fine all rs base field own (cards.Repeated packed) e =
-    let shape = shape_of field.kind in
-    let takes = subst (λ b. Each (Taken types left shape b) (fitting field rs)) (ap is_repeated e) (fitting_taken types left all field rs own base) in
-    (tt, values_fit types left shape (flat_map (values_in nest shape) (fitting field rs)) (all_values types left nest fine shape (scalar_facts field.kind) (fitting field rs) takes))
+field_well : (schema : Schema) (left : ℕ) (nest : Nest (List ℕ)) → NestFits schema left nest → (all : List FieldType) (rs : List Record) → Each (Base schema left all) rs → (field : FieldType) → Own schema all field → (card : Card) → field.card ≡ card → IsHeldBy card (held_by schema nest all rs field card) × Well schema left field (held_by schema nest all rs field card)
+field_well schema left nest fine all rs base field own cards.Implicit e =
+    let type = value_type_of field.kind in
+    let takes = subst (λ b. Each (Taken schema left type b) (fitting schema field rs)) (ap is_repeated e) (fitting_taken schema left all field rs own base) in
+    let held = single nest field (fitting schema field rs) in
+    let sized = single_sized schema left nest fine type (scalar_facts field.kind) (fitting schema field rs) takes in
+    (implicit_held schema left type held sized, single_well schema left field (unless_default held) (implicit_single schema left type held sized))
+field_well schema left nest fine all rs base field own cards.Explicit e =
+    let type = value_type_of field.kind in
+    let takes = subst (λ b. Each (Taken schema left type b) (fitting schema field rs)) (ap is_repeated e) (fitting_taken schema left all field rs own base) in
+    let held = single nest field (fitting schema field rs) in
+    let sized = single_sized schema left nest fine type (scalar_facts field.kind) (fitting schema field rs) takes in
+    (explicit_held schema left type held sized, single_well schema left field held sized)
+field_well schema left nest fine all rs base field own (cards.Member oneof) e =
+    let type = value_type_of field.kind in
+    let run = last_run schema field (of_oneof schema all oneof rs) in
+    let takes = subst (λ b. Each (Taken schema left type b) run) (ap is_repeated e) (oneof_taken schema left all field oneof rs own base) in
+    let sized = single_sized schema left nest fine type (scalar_facts field.kind) run takes in
+    (member_held schema left type oneof (single nest field run) sized, single_well schema left field (single nest field run) sized)
+field_well schema left nest fine all rs base field own (cards.Repeated packed) e =
+    let takes = subst (λ b. Each (Taken schema left (value_type_of field.kind) b) (fitting schema field rs)) (ap is_repeated e) (fitting_taken schema left all field rs own base) in
+    (tt, values_well schema left field (flat_map (values_in schema nest field) (fitting schema field rs)) (all_values schema left nest fine field (fitting schema field rs) takes))
 
 -- a member that isn't the last of its oneof isn't set
-member_unset : (nest : Nest) (all : List FieldType) (rs : List Record) (oneof : ℕ) (field : FieldType) (card : Card) → last_run field (of_oneof all oneof rs) ≡ [] → (is_member oneof card && is_set (held_by nest all rs field card)) ≡ false
-member_unset nest all rs oneof field cards.Implicit e = refl
-member_unset nest all rs oneof field cards.Explicit e = refl
-member_unset nest all rs oneof field (cards.Repeated packed) e = refl
-member_unset nest all rs oneof field (cards.Member other) e = cases (eqb oneof other) refl
+member_unset : (schema : Schema) (nest : Nest (List ℕ)) (all : List FieldType) (rs : List Record) (oneof : ℕ) (field : FieldType) (card : Card) → last_run schema field (of_oneof schema all oneof rs) ≡ [] → (is_member oneof card && is_set (held_by schema nest all rs field card)) ≡ false
+member_unset schema nest all rs oneof field cards.Implicit e = refl
+member_unset schema nest all rs oneof field cards.Explicit e = refl
+member_unset schema nest all rs oneof field (cards.Repeated packed) e = refl
+member_unset schema nest all rs oneof field (cards.Member other) e = cases (eqb oneof other) refl
   where
-    cases : (t : Bool) → eqb oneof other ≡ t → (t && is_set (single nest (shape_of field.kind) (last_run field (of_oneof all other rs)))) ≡ false
+    cases : (t : Bool) → eqb oneof other ≡ t → (t && is_set (single nest field (last_run schema field (of_oneof schema all other rs)))) ≡ false
     cases false p = refl
     cases true p =
-        let run : last_run field (of_oneof all other rs) ≡ [] = ap (λ n. last_run field (of_oneof all n rs)) (sym (eqb-true oneof other p)) ∙ e in
-        ap (λ x. is_set (single nest (shape_of field.kind) x)) run ∙ ap is_set (single_none nest (shape_of field.kind))
+        let run : last_run schema field (of_oneof schema all other rs) ≡ [] = ap (λ n. last_run schema field (of_oneof schema all n rs)) (sym (eqb-true oneof other p)) ∙ e in
+        ap (λ x. is_set (single nest field x)) run ∙ ap is_set (single_none nest (value_type_of field.kind))
 
-others_unset : (nest : Nest) (all : List FieldType) (rs : List Record) (oneof : ℕ) (fields : List FieldType) → EachField (λ field. last_run field (of_oneof all oneof rs) ≡ []) fields → sets_member oneof fields (held_list (map (held_of nest all rs) fields)) ≡ false
-others_unset nest all rs oneof [] p = refl
-others_unset nest all rs oneof (field ∷ fields) p = or_from (is_member oneof field.card && is_set (held_of nest all rs field)) (sets_member oneof fields (held_list (map (held_of nest all rs) fields))) (member_unset nest all rs oneof field field.card p.0) (others_unset nest all rs oneof fields p.1)
+others_unset : (schema : Schema) (nest : Nest (List ℕ)) (all : List FieldType) (rs : List Record) (oneof : ℕ) (fields : List FieldType) → EachField (λ field. last_run schema field (of_oneof schema all oneof rs) ≡ []) fields → sets_member oneof fields (held_list (map (held_of schema nest all rs) fields)) ≡ false
+others_unset schema nest all rs oneof [] p = refl
+others_unset schema nest all rs oneof (field ∷ fields) p = or_from (is_member oneof field.card && is_set (held_of schema nest all rs field)) (sets_member oneof fields (held_list (map (held_of schema nest all rs) fields))) (member_unset schema nest all rs oneof field field.card p.0) (others_unset schema nest all rs oneof fields p.1)
 
 alone_any : (oneof : ℕ) (held : Held) (fields : List FieldType) (rest : HeldList) → IsFalse (sets_member oneof fields rest) → IsAlone (cards.Member oneof) held fields rest
 alone_any oneof Nothing fields rest p = tt
@@ -469,27 +337,27 @@ alone_nothing oneof held fields rest e = subst (λ h. IsAlone (cards.Member oneo
 no_run : (r : Record) (run : List Record) → r ∷ run ≢ []
 no_run r run e = cc
 
-field_alone : (nest : Nest) (all : List FieldType) (rs : List Record) (field : FieldType) (fields : List FieldType) → EachField (λ x. field.number ≢ x.number) fields → (card : Card) → IsAlone card (held_by nest all rs field card) fields (held_list (map (held_of nest all rs) fields))
-field_alone nest all rs field fields differ cards.Implicit = tt
-field_alone nest all rs field fields differ cards.Explicit = tt
-field_alone nest all rs field fields differ (cards.Repeated packed) = tt
-field_alone nest all rs field fields differ (cards.Member oneof) = cases (last_run field (of_oneof all oneof rs)) refl
+field_alone : (schema : Schema) (nest : Nest (List ℕ)) (all : List FieldType) (rs : List Record) (field : FieldType) (fields : List FieldType) → EachField (λ x. field.number ≢ x.number) fields → (card : Card) → IsAlone card (held_by schema nest all rs field card) fields (held_list (map (held_of schema nest all rs) fields))
+field_alone schema nest all rs field fields differ cards.Implicit = tt
+field_alone schema nest all rs field fields differ cards.Explicit = tt
+field_alone schema nest all rs field fields differ (cards.Repeated packed) = tt
+field_alone schema nest all rs field fields differ (cards.Member oneof) = cases (last_run schema field (of_oneof schema all oneof rs)) refl
   where
-    cases : (run : List Record) → last_run field (of_oneof all oneof rs) ≡ run → IsAlone (cards.Member oneof) (single nest (shape_of field.kind) run) fields (held_list (map (held_of nest all rs) fields))
-    cases [] e = alone_nothing oneof (single nest (shape_of field.kind) []) fields (held_list (map (held_of nest all rs) fields)) (single_none nest (shape_of field.kind))
+    cases : (run : List Record) → last_run schema field (of_oneof schema all oneof rs) ≡ run → IsAlone (cards.Member oneof) (single nest field run) fields (held_list (map (held_of schema nest all rs) fields))
+    cases [] e = alone_nothing oneof (single_by nest (value_type_of field.kind) []) fields (held_list (map (held_of schema nest all rs) fields)) (single_none nest (value_type_of field.kind))
     cases (r ∷ run) e =
-        alone_any oneof (single nest (shape_of field.kind) (r ∷ run)) fields (held_list (map (held_of nest all rs) fields))
-        (others_unset nest all rs oneof fields (each_field (λ x. field.number ≢ x.number) (λ x. field.number ≢ x.number) (λ x. last_run x (of_oneof all oneof rs) ≡ []) fields (λ x a b.
+        alone_any oneof (single nest field (r ∷ run)) fields (held_list (map (held_of schema nest all rs) fields))
+        (others_unset schema nest all rs oneof fields (each_field (λ x. field.number ≢ x.number) (λ x. field.number ≢ x.number) (λ x. last_run schema x (of_oneof schema all oneof rs) ≡ []) fields (λ x a b.
         ⊎_elim
-        (λ (none : last_run field (of_oneof all oneof rs) ≡ []). absurd (no_run r run (sym e ∙ none)))
-        (λ (none : last_run x (of_oneof all oneof rs) ≡ []). none)
-        (runs_differ field x a (of_oneof all oneof rs))) differ differ))
+        (λ (none : last_run schema field (of_oneof schema all oneof rs) ≡ []). absurd (no_run r run (sym e ∙ none)))
+        (λ (none : last_run schema x (of_oneof schema all oneof rs) ≡ []). none)
+        (runs_differ schema field x a (of_oneof schema all oneof rs))) differ differ))
 
 -- ALL FIELDS
 
-pub fields_fit : (types : List MessageType) (left : ℕ) (nest : Nest) → NestFits types left nest → (all : List FieldType) (rs : List Record) → Each (Base types left all) rs → (least : ℕ) (fields : List FieldType) → NumbersAscend least fields → EachField (Own all) fields → FieldsFit types fields (held_list (map (held_of nest all rs) fields)) × (fields_levels (held_list (map (held_of nest all rs) fields)) ≤ left)
-fields_fit types left nest fine all rs base least [] ascend own = (tt, omega arith)
-fields_fit types left nest fine all rs base least (field ∷ fields) ascend own =
-    let first = field_well types left nest fine all rs base field own.0 field.card refl in
-    let rest = fields_fit types left nest fine all rs base (field.number + 1) fields ascend.2 own.1 in
-    ((first.0, first.1.0, field_alone nest all rs field fields (others field fields ascend.2) field.card, rest.0), omega (arith, first.1.1, rest.1))
+pub fields_fit : (schema : Schema) (left : ℕ) (nest : Nest (List ℕ)) → NestFits schema left nest → (all : List FieldType) (rs : List Record) → Each (Base schema left all) rs → (least : ℕ) (fields : List FieldType) → NumbersAscend least fields → EachField (Own schema all) fields → FieldsFit schema fields (held_list (map (held_of schema nest all rs) fields)) × (fields_levels (held_list (map (held_of schema nest all rs) fields)) ≤ left)
+fields_fit schema left nest fine all rs base least [] ascend own = (tt, omega arith)
+fields_fit schema left nest fine all rs base least (field ∷ fields) ascend own =
+    let first = field_well schema left nest fine all rs base field own.0 field.card refl in
+    let rest = fields_fit schema left nest fine all rs base (field.number + 1) fields ascend.2 own.1 in
+    ((first.0, first.1.0, field_alone schema nest all rs field fields (others field fields ascend.2) field.card, rest.0), omega (arith, first.1.1, rest.1))

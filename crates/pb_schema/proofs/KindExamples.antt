@@ -12,7 +12,7 @@ use Rattle.pb_schema.specs.declared.schema.Schema.{Schema}
 use Rattle.pb_schema.specs.declared.wire_fault.WireFault.{WireFault}
 use Rattle.pb_schema.specs.declared.wire_fault.WireKind.{WireKind}
 use Rattle.pb_schema.specs.declared.wire_fault.WireKind.TheVariants.{Cut, LongVarint, GroupEnd, NotUtf8}
-use Rattle.pb_schema.specs.Kinds.{shape_of, slot_of, wire_of, is_number}
+use Rattle.pb_schema.specs.Kinds.{value_type_of, slot_of, value_wire, is_number}
 use Rattle.pb_schema.specs.Builtin.{field}
 use Rattle.pb_schema.specs.Tree.{Held, One, Number, Bytes, Tree, Message, held_list}
 use Rattle.pb_schema.specs.Fault.{fault_of}
@@ -49,13 +49,13 @@ all_kinds =
     ∷ kinds.SInt64
     ∷ []
 
-wire_types : map (λ kind. wire_of (shape_of kind)) all_kinds ≡ 1 ∷ 5 ∷ 0 ∷ 0 ∷ 0 ∷ 1 ∷ 5 ∷ 0 ∷ 2 ∷ 2 ∷ 2 ∷ 0 ∷ 0 ∷ 5 ∷ 1 ∷ 0 ∷ 0 ∷ []
+wire_types : map (λ kind. value_wire (value_type_of kind)) all_kinds ≡ 1 ∷ 5 ∷ 0 ∷ 0 ∷ 0 ∷ 1 ∷ 5 ∷ 0 ∷ 2 ∷ 2 ∷ 2 ∷ 0 ∷ 0 ∷ 5 ∷ 1 ∷ 0 ∷ 0 ∷ []
 wire_types = refl
 
-slots : map (λ kind. slot_of (shape_of kind)) all_kinds ≡ 8 ∷ 4 ∷ 8 ∷ 8 ∷ 4 ∷ 8 ∷ 4 ∷ 1 ∷ 24 ∷ 16 ∷ 24 ∷ 4 ∷ 4 ∷ 4 ∷ 8 ∷ 4 ∷ 8 ∷ []
+slots : map (λ kind. slot_of (value_type_of kind)) all_kinds ≡ 8 ∷ 4 ∷ 8 ∷ 8 ∷ 4 ∷ 8 ∷ 4 ∷ 1 ∷ 24 ∷ 16 ∷ 24 ∷ 4 ∷ 4 ∷ 4 ∷ 8 ∷ 4 ∷ 8 ∷ []
 slots = refl
 
-are_numbers : map (λ kind. is_number (shape_of kind)) all_kinds ≡ true ∷ true ∷ true ∷ true ∷ true ∷ true ∷ true ∷ true ∷ false ∷ false ∷ false ∷ true ∷ true ∷ true ∷ true ∷ true ∷ true ∷ []
+are_numbers : map (λ kind. is_number (value_type_of kind)) all_kinds ≡ true ∷ true ∷ true ∷ true ∷ true ∷ true ∷ true ∷ true ∷ false ∷ false ∷ false ∷ true ∷ true ∷ true ∷ true ∷ true ∷ true ∷ []
 are_numbers = refl
 
 -- ONE FIELD

@@ -5,18 +5,23 @@ pub mod FrameLaws
 pub mod TextLaws
 pub mod FormLaws
 pub mod WalkSteps
+pub mod FitsLaws
+pub mod Runs
 pub mod RecordsFound
 pub mod RecordsFront
 pub mod OneRecord
 pub mod MergeLaws
+pub mod MapLaws
 pub mod FaultLaws
 pub mod SoundRecords
 pub mod Gathering
 pub mod FittedLaws
+pub mod ShapeLaws
 mod Rows
 mod Examples
 mod TreeExamples
 mod KindExamples
+mod ShapeExamples
 mod FittedExamples
 mod LawfulExamples
 pub mod TickText

@@ -4,6 +4,7 @@ use Rattle.pb_schema.specs.Varint.{Varint, length_bytes}
 use Rattle.pb_schema.specs.Tag.{IsTag}
 use Rattle.pb_schema.specs.Reads.{◌>>=◌}
 use Rattle.pb_schema.specs.Form.{Form, form_at, read_tag, read_length}
+use Rattle.pb_schema.specs.Fits.{no_types}
 use Rattle.pb_schema.specs.Walk.{read_held, deeper_left, record_left}
 use Rattle.pb_schema.specs.Records.{Record, IsRecord, AreRecords, record_of}
 use Rattle.pb_schema.proofs.VarintLaws.{varint_at_found, varint_at_exact}
@@ -29,12 +30,12 @@ length_read at s len n p =
     let size = varint_at_within length_bytes s len n found in
     read_length_of at s len n (record { varint = found; below = p.2; some = size.0; within = size.2 })
 
-pub record_there : (levels at : ℕ) (s : List ℕ) (form : Form) → record_left [] levels [] at s ≡ Ok form → IsRecord (AreRecords levels) (record_of form s) × (0 < form.size) × (form.size ≤ length s)
+pub record_there : (levels at : ℕ) (s : List ℕ) (form : Form) → record_left no_types levels [] at s ≡ Ok form → IsRecord (AreRecords levels) (record_of form s) × (0 < form.size) × (form.size ≤ length s)
 record_there levels at s form e =
-    bind_ok (form_at at s) (λ form. read_held [] (deeper_left [] levels) [] at s form) form e
+    bind_ok (form_at at s) (λ form. read_held no_types (deeper_left no_types levels) [] at s form) form e
     λ start was held. let found = each_found levels at s start form was held in (found.is, found.some, found.within)
 
-pub record_read : (levels at : ℕ) (s rest : List ℕ) (r : Record) → IsRecord (AreRecords levels) r → s ≡ r.span ++ rest → (form : Form) × (record_left [] levels [] at s ≡ Ok form) × (form.size ≡ length r.span) × (record_of form s ≡ r)
+pub record_read : (levels at : ℕ) (s rest : List ℕ) (r : Record) → IsRecord (AreRecords levels) r → s ≡ r.span ++ rest → (form : Form) × (record_left no_types levels [] at s ≡ Ok form) × (form.size ≡ length r.span) × (record_of form s ≡ r)
 record_read levels at s rest r p e =
     let front = each_front levels at s rest r p e in
-    (front.whole, ap (λ x. x >>= λ form. read_held [] (deeper_left [] levels) [] at s form) front.form_is ∙ front.held, front.size, front.is)
+    (front.whole, ap (λ x. x >>= λ form. read_held no_types (deeper_left no_types levels) [] at s form) front.form_is ∙ front.held, front.size, front.is)

@@ -8,7 +8,8 @@ use Rattle.pb_schema.specs.Varint.{Varint, tag_bytes, length_bytes, value_bytes}
 use Rattle.pb_schema.specs.Tag.{IsTag}
 use Rattle.pb_schema.specs.Reads.{◌>>=◌}
 use Rattle.pb_schema.specs.Form.{Form, form_at, read_payload, read_scalar, read_bytes, read_varint}
-use Rattle.pb_schema.specs.Walk.{Stop, closed, read_held, ends, walk, walk_left, deeper_left}
+use Rattle.pb_schema.specs.Fits.{no_types}
+use Rattle.pb_schema.specs.Walk.{in_group, Stop, closed, read_held, ends, walk, walk_left, deeper_left}
 use Rattle.pb_schema.specs.Records.{Record, Spells, IsRecord, Spans, AreRecords, record_of}
 use Rattle.pb_schema.proofs.Steps.{varint_at_within}
 use Rattle.pb_schema.proofs.VarintLaws.{varint_at_front, varint_at_found}
@@ -133,7 +134,7 @@ record GroupFound (levels number at : ℕ) (s : List ℕ) (stop : Stop) : Type 0
 
 -- each record at the front is one, with so many levels
 abbrev pub EachFound : ℕ → Type 0
-EachFound levels = (at : ℕ) (s : List ℕ) (form whole : Form) → form_at at s ≡ Ok form → read_held [] (deeper_left [] levels) [] at s form ≡ Ok whole → RecordFound levels s whole
+EachFound levels = (at : ℕ) (s : List ℕ) (form whole : Form) → form_at at s ≡ Ok form → read_held no_types (deeper_left no_types levels) [] at s form ≡ Ok whole → RecordFound levels s whole
 
 -- the end tag of a group by itself
 end_tag : (at : ℕ) (s : List ℕ) (form : Form) → FormParts at s form → form.wire ≡ 4 → IsTag (take form.size s) form.number 4
@@ -195,7 +196,7 @@ group_more levels number at s whole stop front rest =
       behind_is = omega (arith, rest.behind_is, size, both);
     }
 
-walk_found : (levels : ℕ) → EachFound levels → (number skip at : ℕ) (s : List ℕ) (stop : Stop) → walk [] (deeper_left [] levels) [] (Some number) at skip s ≡ Ok stop → GroupFound levels number (at + skip) (drop skip s) stop
+walk_found : (levels : ℕ) → EachFound levels → (number skip at : ℕ) (s : List ℕ) (stop : Stop) → walk no_types (deeper_left no_types levels) (in_group [] number) at skip s ≡ Ok stop → GroupFound levels number (at + skip) (drop skip s) stop
 walk_found levels each number skip at [] stop e = not_ok (record { kind = Cut; byte = at }) stop e
 walk_found levels each number (suc skip) at (b ∷ s) stop e =
     let here : suc at + skip ≡ at + suc skip = omega arith in
@@ -203,12 +204,12 @@ walk_found levels each number (suc skip) at (b ∷ s) stop e =
 walk_found levels each number zero at (b ∷ s) stop e =
     let here : at ≡ at + 0 = omega arith in
     subst (λ n. GroupFound levels number n (b ∷ s) stop) here
-    (bind_ok (form_at at (b ∷ s)) (λ form. after_ends [] (deeper_left [] levels) [] (Some number) at b s form (ends (Some number) form)) stop e
+    (bind_ok (form_at at (b ∷ s)) (λ form. after_ends no_types (deeper_left no_types levels) (in_group [] number) at b s form (ends (Some number) form)) stop e
     λ form was is.
     ⊎_elim
-    (λ (is_end : ends (Some number) form ≡ true). group_ended levels number at b s form stop was is_end (sym (ap (after_ends [] (deeper_left [] levels) [] (Some number) at b s form) is_end) ∙ is))
+    (λ (is_end : ends (Some number) form ≡ true). group_ended levels number at b s form stop was is_end (sym (ap (after_ends no_types (deeper_left no_types levels) (in_group [] number) at b s form) is_end) ∙ is))
     (λ (goes_on : ends (Some number) form ≡ false).
-    bind_ok (read_held [] (deeper_left [] levels) [] at (b ∷ s) form) (λ whole. walk [] (deeper_left [] levels) [] (Some number) (suc at) (whole.size - 1) s) stop (sym (ap (after_ends [] (deeper_left [] levels) [] (Some number) at b s form) goes_on) ∙ is)
+    bind_ok (read_held no_types (deeper_left no_types levels) [] at (b ∷ s) form) (λ whole. walk no_types (deeper_left no_types levels) (in_group [] number) (suc at) (whole.size - 1) s) stop (sym (ap (after_ends no_types (deeper_left no_types levels) (in_group [] number) at b s form) goes_on) ∙ is)
     λ whole held more.
     let front = each at (b ∷ s) form whole was held in
     let place : suc at + (whole.size - 1) ≡ at + whole.size = omega (arith, front.some) in
@@ -249,13 +250,13 @@ group_found levels at s form stop p wire found =
     }
 
 -- any other record at the front
-other_found : (levels at : ℕ) (s : List ℕ) (form whole : Form) → FormParts at s form → form.wire ≢ 3 → read_held [] (deeper_left [] levels) [] at s form ≡ Ok whole → RecordFound levels s whole
+other_found : (levels at : ℕ) (s : List ℕ) (form whole : Form) → FormParts at s form → form.wire ≢ 3 → read_held no_types (deeper_left no_types levels) [] at s form ≡ Ok whole → RecordFound levels s whole
 other_found levels at s form whole p no_start e =
     ⊎_elim
-    (λ (is_end : eqb form.wire 4 ≡ true). not_ok (record { kind = GroupEnd; byte = at }) whole (sym (held_end [] (deeper_left [] levels) [] at s form (eqb-true form.wire 4 is_end)) ∙ e))
+    (λ (is_end : eqb form.wire 4 ≡ true). not_ok (record { kind = GroupEnd; byte = at }) whole (sym (held_end no_types (deeper_left no_types levels) [] at s form (eqb-true form.wire 4 is_end)) ∙ e))
     (λ (differ : eqb form.wire 4 ≡ false).
     let no_end = not_eqb form.wire 4 differ in
-    let same : form ≡ whole = same_ok form whole (sym (held_plain [] (deeper_left [] levels) [] at s form no_start no_end) ∙ e) in
+    let same : form ≡ whole = same_ok form whole (sym (held_plain no_types (deeper_left no_types levels) [] at s form no_start no_end) ∙ e) in
     subst (RecordFound levels s) same (record { is = plain_found (AreRecords levels) at s form p no_start no_end; some = omega (arith, p.size_is, p.payload_is, p.tag.some); within = p.within }))
     (cases_bool (eqb form.wire 4))
 
@@ -264,7 +265,7 @@ each_found zero at s form whole was e =
     form_ok at s form was
     λ p.
     ⊎_elim
-    (λ (is_start : eqb form.wire 3 ≡ true). not_ok (record { kind = TooDeep; byte = at }) whole (sym (held_group [] (deeper_left [] zero) [] at s form (eqb-true form.wire 3 is_start)) ∙ e))
+    (λ (is_start : eqb form.wire 3 ≡ true). not_ok (record { kind = TooDeep; byte = at }) whole (sym (held_group no_types (deeper_left no_types zero) [] at s form (eqb-true form.wire 3 is_start)) ∙ e))
     (λ (differ : eqb form.wire 3 ≡ false). other_found zero at s form whole p (not_eqb form.wire 3 differ) e)
     (cases_bool (eqb form.wire 3))
 each_found (suc levels) at s form whole was e =
@@ -273,10 +274,10 @@ each_found (suc levels) at s form whole was e =
     ⊎_elim
     (λ (is_start : eqb form.wire 3 ≡ true).
     let wire = eqb-true form.wire 3 is_start in
-    bind_ok (walk_left [] levels at [] (Some form.number) (at + form.payload) (drop form.payload s)) (λ stop. Ok (closed form at stop)) whole (sym (held_group [] (deeper_left [] (suc levels)) [] at s form wire) ∙ e)
+    bind_ok (walk_left no_types levels at (in_group [] form.number) (at + form.payload) (drop form.payload s)) (λ stop. Ok (closed form at stop)) whole (sym (held_group no_types (deeper_left no_types (suc levels)) [] at s form wire) ∙ e)
     λ stop read is.
     let zeroth : at + form.payload + 0 ≡ at + form.payload = omega arith in
-    let found = walk_found levels (each_found levels) form.number 0 (at + form.payload) (drop form.payload s) stop (sym (walk_left_is [] levels at [] (Some form.number) (at + form.payload) (drop form.payload s)) ∙ read) in
+    let found = walk_found levels (each_found levels) form.number 0 (at + form.payload) (drop form.payload s) stop (sym (walk_left_is no_types levels at (in_group [] form.number) (at + form.payload) (drop form.payload s)) ∙ read) in
     subst (RecordFound (suc levels) s) (same_ok (closed form at stop) whole is)
     (group_found levels at s form stop p wire (subst (λ n. GroupFound levels form.number n (drop form.payload s) stop) zeroth found)))
     (λ (differ : eqb form.wire 3 ≡ false). other_found (suc levels) at s form whole p (not_eqb form.wire 3 differ) e)

@@ -8,7 +8,8 @@ use Rattle.pb_schema.specs.Varint.{value_bytes, length_bytes, varint_at}
 use Rattle.pb_schema.specs.Tag.{IsTag}
 use Rattle.pb_schema.specs.Reads.{◌>>=◌, value_read}
 use Rattle.pb_schema.specs.Form.{Form, form_at, read_payload, read_scalar, read_bytes}
-use Rattle.pb_schema.specs.Walk.{Stop, closed, read_held, walk, walk_left, deeper_left, record_left}
+use Rattle.pb_schema.specs.Fits.{no_types}
+use Rattle.pb_schema.specs.Walk.{in_group, Stop, closed, read_held, walk, walk_left, deeper_left, record_left}
 use Rattle.pb_schema.specs.Records.{Record, Spells, IsRecord, Spans, AreRecords, RecordsWithin, Records, record_of, records_from, records_within, records_of}
 use Rattle.pb_schema.proofs.Steps.{option_map_some, varint_at_within}
 use Rattle.pb_schema.proofs.VarintLaws.{same_cons, varint_at_front}
@@ -78,7 +79,7 @@ pub record FrontFound (levels at : ℕ) (s : List ℕ) (r : Record) : Type 0 whe
   pub whole : Form
   pub form_is : form_at at s ≡ Ok form
   pub no_end : form.wire ≢ 4
-  pub held : read_held [] (deeper_left [] levels) [] at s form ≡ Ok whole
+  pub held : read_held no_types (deeper_left no_types levels) [] at s form ≡ Ok whole
   pub size : whole.size ≡ length r.span
   pub is : record_of whole s ≡ r
 
@@ -106,7 +107,7 @@ plain_front levels at s rest r p e no_start =
       whole = form;
       form_is = form_of_parts at s r.number r.wire n front.front front.len (subst (λ x. TagParts x r.number r.wire n) (sym whole_is) (tag_front tag (behind ++ rest) r.number r.wire p.2)) (ap (read_payload r.wire (at + n)) behind_tag ∙ front.is);
       no_end = no_end;
-      held = held_plain [] (deeper_left [] levels) [] at s form no_start no_end;
+      held = held_plain no_types (deeper_left no_types levels) [] at s form no_start no_end;
       size = size;
       is = same_record r.number r.wire _ _ r refl refl
           (ap (take front.len) (sym (drop-drop front.front n s) ∙ ap (drop front.front) behind_tag) ∙ front.there)
@@ -125,7 +126,7 @@ and_no false b e = refl
 bare_form : (at number wire : ℕ) (s tag x : List ℕ) → s ≡ tag ++ x → IsTag tag number wire → read_payload wire (at + length tag) (drop (length tag) s) ≡ Ok (0, 0) → form_at at s ≡ Ok (record { number = number; wire = wire; payload = length tag + 0; payload_len = 0; size = length tag + 0 + 0 })
 bare_form at number wire s tag x e p none = form_of_parts at s number wire (length tag) 0 0 (subst (λ y. TagParts y number wire (length tag)) (sym e) (tag_front tag x number wire p)) none
 
-walk_front : (levels : ℕ) → EachFront levels → (number at : ℕ) (rs : List Record) (contents end rest : List ℕ) → Spans (AreRecords levels) rs contents → IsTag end number 4 → walk [] (deeper_left [] levels) [] (Some number) at 0 (contents ++ (end ++ rest)) ≡ Ok (at + length contents, at + (length contents + length end))
+walk_front : (levels : ℕ) → EachFront levels → (number at : ℕ) (rs : List Record) (contents end rest : List ℕ) → Spans (AreRecords levels) rs contents → IsTag end number 4 → walk no_types (deeper_left no_types levels) (in_group [] number) at 0 (contents ++ (end ++ rest)) ≡ Ok (at + length contents, at + (length contents + length end))
 walk_front levels each number at [] contents end rest p q =
     let s = contents ++ (end ++ rest) in
     let here : s ≡ end ++ rest = ap (λ x. x ++ (end ++ rest)) p in
@@ -135,7 +136,7 @@ walk_front levels each number at [] contents end rest p q =
     let filled : s ≢ [] = λ empty. absurd (omega (arith, ap length empty, ap length here, length-append end rest, some)) in
     let stop : at ≡ at + length contents = omega (arith, none) in
     let behind : at + (length end + 0 + 0) ≡ at + (length contents + length end) = omega (arith, none) in
-    walk_ends [] (deeper_left [] levels) [] (Some number) at s form filled (bare_form at number 4 s end rest here q refl) (and_from (eqb 4 4) (eqb number number) refl (eq-eqb number number refl))
+    walk_ends no_types (deeper_left no_types levels) (in_group [] number) at s form filled (bare_form at number 4 s end rest here q refl) (and_from (eqb 4 4) (eqb number number) refl (eq-eqb number number refl))
     ∙ (ap (λ n. Ok (n, at + (length end + 0 + 0))) stop ∙ ap (λ n. Ok (at + length contents, n)) behind)
 walk_front levels each number at (r ∷ rs) contents end rest p q =
     let s = contents ++ (end ++ rest) in
@@ -149,8 +150,8 @@ walk_front levels each number at (r ∷ rs) contents end rest p q =
     let size = front.size in
     let stop : at + front.whole.size + length p.0 ≡ at + length contents = omega (arith, count, size) in
     let behind : at + front.whole.size + (length p.0 + length end) ≡ at + (length contents + length end) = omega (arith, count, size) in
-    walk_more [] (deeper_left [] levels) [] (Some number) at s front.form front.whole front.form_is (and_no (eqb front.form.wire 4) (eqb front.form.number number) (ne_eqb front.form.wire 4 front.no_end)) front.held (omega (arith, size, some)) (omega (arith, size, filled, all))
-    ∙ (ap (λ x. walk [] (deeper_left [] levels) [] (Some number) (at + front.whole.size) 0 x) (ap (λ n. drop n s) size ∙ (ap (drop (length r.span)) here ∙ drop_at r.span tail (length r.span) refl))
+    walk_more no_types (deeper_left no_types levels) (in_group [] number) at s front.form front.whole front.form_is (and_no (eqb front.form.wire 4) (eqb front.form.number number) (ne_eqb front.form.wire 4 front.no_end)) front.held (omega (arith, size, some)) (omega (arith, size, filled, all))
+    ∙ (ap (λ x. walk no_types (deeper_left no_types levels) (in_group [] number) (at + front.whole.size) 0 x) (ap (λ n. drop n s) size ∙ (ap (drop (length r.span)) here ∙ drop_at r.span tail (length r.span) refl))
     ∙ (walk_front levels each number (at + front.whole.size) rs p.0 end rest p.3 q
     ∙ (ap (λ n. Ok (n, at + front.whole.size + (length p.0 + length end))) stop ∙ ap (λ n. Ok (at + length contents, n)) behind)))
   where
@@ -176,9 +177,9 @@ group_front levels at each s rest r p e wire =
     let contents : drop (n + 0) s ≡ r.payload ++ (end ++ rest) = ap (λ k. drop k s) (sym zeroth) ∙ (behind_tag ∙ inside) in
     let there = at + (n + 0) in
     let stop : Stop = (there + length r.payload, there + (length r.payload + length end)) in
-    let read : walk_left [] levels at [] (Some r.number) there (drop (n + 0) s) ≡ Ok stop =
-    ap (λ x. walk_left [] levels at [] (Some r.number) there x) contents
-    ∙ (walk_left_is [] levels at [] (Some r.number) there (r.payload ++ (end ++ rest))
+    let read : walk_left no_types levels at (in_group [] r.number) there (drop (n + 0) s) ≡ Ok stop =
+    ap (λ x. walk_left no_types levels at (in_group [] r.number) there x) contents
+    ∙ (walk_left_is no_types levels at (in_group [] r.number) there (r.payload ++ (end ++ rest))
     ∙ walk_front levels each r.number there spelled.1.0 r.payload end rest spelled.1.1 spelled.2) in
     let whole = closed form at stop in
     let count : length r.span ≡ n + (length r.payload + length end) = omega (arith, ap length p.4, length-append tag behind, ap length spelled.3, length-append r.payload end) in
@@ -189,7 +190,7 @@ group_front levels at each s rest r p e wire =
       whole = whole;
       form_is = bare_form at r.number 3 s tag (behind ++ rest) whole_is start refl;
       no_end = λ four. absurd (omega (arith, four));
-      held = held_group [] (deeper_left [] (suc levels)) [] at s form refl ∙ ap (λ x. x >>= λ stop. Ok (closed form at stop)) read;
+      held = held_group no_types (deeper_left no_types (suc levels)) [] at s form refl ∙ ap (λ x. x >>= λ stop. Ok (closed form at stop)) read;
       size = size;
       is = same_record r.number 3 _ _ r refl (sym wire)
           (ap (λ k. take k (drop (n + 0) s)) len ∙ (ap (take (length r.payload)) contents ∙ take_at r.payload (end ++ rest) (length r.payload) refl))
@@ -219,7 +220,7 @@ each_front (suc levels) at s rest r p e =
 
 -- the form of the record at the front, where one stands there
 abbrev pub first_of : ℕ → List ℕ → Option Form
-first_of levels s = value_read (record_left [] levels [] 0 s)
+first_of levels s = value_read (record_left no_types levels [] 0 s)
 
 record_from-skip : (levels skip : ℕ) (s : List ℕ) → records_from (first_of levels) skip s ≡ records_from (first_of levels) 0 (drop skip s)
 record_from-skip levels zero s = refl
@@ -239,7 +240,7 @@ records_more levels b s form e some =
 -- the first record, from what is found at the front
 first_found : (levels : ℕ) (s : List ℕ) (whole : Form) → first_of levels s ≡ Some whole → RecordFound levels s whole
 first_found levels s whole e =
-    bind_ok (form_at 0 s) (λ form. read_held [] (deeper_left [] levels) [] 0 s form) whole (some_ok (record_left [] levels [] 0 s) whole e)
+    bind_ok (form_at 0 s) (λ form. read_held no_types (deeper_left no_types levels) [] 0 s form) whole (some_ok (record_left no_types levels [] 0 s) whole e)
     λ form was held. each_found levels 0 s form whole was held
   where
     some_ok : (r : Result Form WireFault) (whole : Form) → value_read r ≡ Some whole → r ≡ Ok whole
@@ -273,7 +274,7 @@ records_found levels (r ∷ rs) (b ∷ s) e =
 first_front : (levels : ℕ) (s rest : List ℕ) (r : Record) → IsRecord (AreRecords levels) r → s ≡ r.span ++ rest → (whole : Form) × (first_of levels s ≡ Some whole) × (whole.size ≡ length r.span) × (record_of whole s ≡ r)
 first_front levels s rest r p e =
     let front = each_front levels 0 s rest r p e in
-    (front.whole, ap value_read (ap (λ x. x >>= λ form. read_held [] (deeper_left [] levels) [] 0 s form) front.form_is ∙ front.held), front.size, front.is)
+    (front.whole, ap value_read (ap (λ x. x >>= λ form. read_held no_types (deeper_left no_types levels) [] 0 s form) front.form_is ∙ front.held), front.size, front.is)
 
 pub record_size : (levels : ℕ) (r : Record) → IsRecord (AreRecords levels) r → 1 ≤ length r.span
 record_size levels r p =

@@ -1,58 +1,50 @@
 -- What a payload without a fault is: records, each of which holds what its field takes; and bytes that are such records have no fault, wherever they begin.
-use Rattle.std.proofs.Common.{◌≡◌, ◌≢◌, ℕ, zero, suc, ◌+◌, ◌-◌, List, [], ◌∷◌, ◌++◌, length, take, drop, Bool, true, false, cond, eqb, None, Result, Ok, Err, refl, sym, ap, ◌∙◌, subst, arith, length-append, take-append-drop, append_assoc}
+use Rattle.std.proofs.Common.{◌≡◌, ◌≢◌, ℕ, zero, suc, ◌+◌, ◌-◌, List, [], ◌∷◌, ◌++◌, length, take, drop, Bool, true, false, cond, eqb, Result, Ok, Err, refl, sym, ap, ◌∙◌, subst, arith, length-append, take-append-drop, append_assoc}
 use Rattle.std.proofs.lemmas.Bool.{false≢true, eq-eqb, eqb-true}
 use Rattle.std.proofs.lemmas.List.{drop_at}
 use Rattle.std.specs.Str.{is_utf8}
 use Rattle.pb_schema.specs.declared.kind.FieldType.{FieldType}
-use Rattle.pb_schema.specs.declared.schema.MessageType.{MessageType}
+use Rattle.pb_schema.specs.declared.schema.Schema.{Schema}
 use Rattle.pb_schema.specs.declared.wire_fault.WireKind.TheVariants.{GroupEnd, TooDeep, NotUtf8}
 use Rattle.pb_schema.specs.declared.wire_fault.WireFault.{WireFault}
 use Rattle.pb_schema.specs.Varint.{value_bytes}
 use Rattle.pb_schema.specs.Reads.{fault, ◌>>=◌}
-use Rattle.pb_schema.specs.Fits.{Contents, Anything, Numbers, Utf8, Message, contents_of, fields_of}
+use Rattle.pb_schema.specs.Fits.{Contents, Anything, Numbers, Utf8, Message, no_types, contents_of, fields_of}
 use Rattle.pb_schema.specs.Form.{Form, form_at, read_scalar, read_varint}
-use Rattle.pb_schema.specs.Walk.{Stop, Deeper, numbers_end, read_contents, read_held, walk, deeper_left}
+use Rattle.pb_schema.specs.Walk.{in_message, Stop, Deeper, numbers_end, read_contents, read_held, walk, deeper_left}
 use Rattle.pb_schema.specs.Records.{Record, Spans, AreRecords, RecordsWithin, record_of}
 use Rattle.pb_schema.proofs.FormLaws.{not_ok, same_ok, bind_ok, read_varint_ok, read_varint_some, read_bytes_ok, read_bytes_of}
-use Rattle.pb_schema.proofs.WalkSteps.{after_ends, if_group, if_start, held_end, held_plain, walk_more, walk_left_is}
+use Rattle.pb_schema.proofs.WalkSteps.{after_ends, if_end, if_start, held_end, held_plain, walk_more, walk_left_is}
 use Rattle.pb_schema.proofs.RecordsFound.{each_found}
 use Rattle.pb_schema.proofs.RecordsFront.{each_front, record_size}
-use Rattle.pb_schema.proofs.FaultLaws.{same_held, held_untyped}
+use Rattle.pb_schema.proofs.FaultLaws.{same_held, group_same, held_untyped}
+use Rattle.pb_schema.proofs.Runs.{Each, each_join}
 
 -- something that is there
 abbrev pub Finds : {A : Type 0} → Result A WireFault → Type 0
 Finds {A} r = (x : A) × (r ≡ Ok x)
 
--- of each record
-abbrev pub Each : (Record → Type 0) → List Record → Type 0
-Each P [] = Unit {0}
-Each P (r ∷ rs) = P r × Each P rs
-
-pub each_join : (P : Record → Type 0) (xs ys : List Record) → Each P xs → Each P ys → Each P (xs ++ ys)
-each_join P [] ys p q = q
-each_join P (x ∷ xs) ys p q = (p.0, each_join P xs ys p.1 q)
-
 -- a record holds what its field takes
-abbrev pub Holds : List MessageType → ℕ → List FieldType → Record → Type 0
-Holds types left fields r = r.wire ≢ 3 → (tag : ℕ) × (at : ℕ) × Finds (read_contents types (deeper_left types left) tag at r.payload (contents_of fields r.number r.wire))
+abbrev pub Holds : Schema → ℕ → List FieldType → Record → Type 0
+Holds schema left fields r = r.wire ≢ 3 → (tag : ℕ) × (at : ℕ) × Finds (read_contents schema (deeper_left schema left) tag at r.payload (contents_of schema fields r))
 
 -- TO RECORDS
 
 not_three : (a b : ℕ) → eqb a b ≡ false → a ≢ b
 not_three a b differ same = absurd (false≢true (sym differ ∙ eq-eqb a b same))
 
-held_holds : (types : List MessageType) (left : ℕ) (fields : List FieldType) (at : ℕ) (s : List ℕ) (form whole : Form) (t u : Bool) → eqb form.wire 3 ≡ t → eqb form.wire 4 ≡ u → read_held types (deeper_left types left) fields at s form ≡ Ok whole → (t ≡ false → form ≡ whole) × (t ≡ false → Finds (read_contents types (deeper_left types left) at (at + form.payload) (take form.payload_len (drop form.payload s)) (contents_of fields form.number form.wire)))
-held_holds types left fields at s form whole true u start end e = (λ f. absurd (false≢true (sym f)), λ f. absurd (false≢true (sym f)))
-held_holds types left fields at s form whole false true start end e =
-    let is = sym (ap (if_group types (deeper_left types left) fields at s form) end) ∙ (sym (ap (if_start types (deeper_left types left) fields at s form) start) ∙ e) in
+held_holds : (schema : Schema) (left : ℕ) (fields : List FieldType) (at : ℕ) (s : List ℕ) (form whole : Form) (t u : Bool) → eqb form.wire 3 ≡ t → eqb form.wire 4 ≡ u → read_held schema (deeper_left schema left) fields at s form ≡ Ok whole → (t ≡ false → form ≡ whole) × (t ≡ false → Finds (read_contents schema (deeper_left schema left) at (at + form.payload) (take form.payload_len (drop form.payload s)) (contents_of schema fields (record_of form s))))
+held_holds schema left fields at s form whole true u start end e = (λ f. absurd (false≢true (sym f)), λ f. absurd (false≢true (sym f)))
+held_holds schema left fields at s form whole false true start end e =
+    let is = sym (ap (if_end schema (deeper_left schema left) fields at s form) end) ∙ (sym (ap (if_start schema (deeper_left schema left) fields at s form) start) ∙ e) in
     not_ok (record { kind = GroupEnd; byte = at }) whole is
-held_holds types left fields at s form whole false false start end e =
-    let is = sym (ap (if_group types (deeper_left types left) fields at s form) end) ∙ (sym (ap (if_start types (deeper_left types left) fields at s form) start) ∙ e) in
-    bind_ok (read_contents types (deeper_left types left) at (at + form.payload) (take form.payload_len (drop form.payload s)) (contents_of fields form.number form.wire)) (λ _. Ok form) whole is
+held_holds schema left fields at s form whole false false start end e =
+    let is = sym (ap (if_end schema (deeper_left schema left) fields at s form) end) ∙ (sym (ap (if_start schema (deeper_left schema left) fields at s form) start) ∙ e) in
+    bind_ok (read_contents schema (deeper_left schema left) at (at + form.payload) (take form.payload_len (drop form.payload s)) (contents_of schema fields (record_of form s))) (λ _. Ok form) whole is
     λ x was same. (λ f. same_ok form whole same, λ f. (x, was))
 
-held_wire : (types : List MessageType) (left : ℕ) (fields : List FieldType) (at : ℕ) (s : List ℕ) (form whole : Form) → read_held types (deeper_left types left) fields at s form ≡ Ok whole → whole.wire ≢ 3 → eqb form.wire 3 ≡ false
-held_wire types left fields at s form whole e other = cases (eqb form.wire 3) refl
+held_wire : (schema : Schema) (left : ℕ) (fields : List FieldType) (at : ℕ) (s : List ℕ) (form whole : Form) → read_held schema (deeper_left schema left) fields at s form ≡ Ok whole → whole.wire ≢ 3 → eqb form.wire 3 ≡ false
+held_wire schema left fields at s form whole e other = cases (eqb form.wire 3) refl
   where
     closed_wire : (r : Result Stop WireFault) → (r >>= λ stop. Ok (record form { payload_len = stop.0 - (at + form.payload); size = stop.1 - at })) ≡ Ok whole → form.wire ≡ whole.wire
     closed_wire (Ok stop) is = ap (λ (f : Form). f.wire) (same_ok (record form { payload_len = stop.0 - (at + form.payload); size = stop.1 - at }) whole is)
@@ -61,38 +53,38 @@ held_wire types left fields at s form whole e other = cases (eqb form.wire 3) re
     cases : (t : Bool) → eqb form.wire 3 ≡ t → t ≡ false
     cases false start = refl
     cases true start =
-        let wire = closed_wire _ (sym (ap (if_start types (deeper_left types left) fields at s form) start) ∙ e) in
+        let wire = closed_wire _ (sym (ap (if_start schema (deeper_left schema left) fields at s form) start) ∙ e) in
         absurd (other (sym wire ∙ eqb-true form.wire 3 start))
 
-record_holds : (types : List MessageType) (left : ℕ) (fields : List FieldType) (at : ℕ) (s : List ℕ) (form whole : Form) → read_held types (deeper_left types left) fields at s form ≡ Ok whole → Holds types left fields (record_of whole s)
-record_holds types left fields at s form whole e = λ other.
-    let plain = held_wire types left fields at s form whole e other in
-    let parts = held_holds types left fields at s form whole (eqb form.wire 3) (eqb form.wire 4) refl refl e in
+record_holds : (schema : Schema) (left : ℕ) (fields : List FieldType) (at : ℕ) (s : List ℕ) (form whole : Form) → read_held schema (deeper_left schema left) fields at s form ≡ Ok whole → Holds schema left fields (record_of whole s)
+record_holds schema left fields at s form whole e = λ other.
+    let plain = held_wire schema left fields at s form whole e other in
+    let parts = held_holds schema left fields at s form whole (eqb form.wire 3) (eqb form.wire 4) refl refl e in
     let same = parts.0 plain in
-    (at, at + form.payload, subst (λ (f : Form). Finds (read_contents types (deeper_left types left) at (at + form.payload) (take f.payload_len (drop f.payload s)) (contents_of fields f.number f.wire))) same (parts.1 plain))
+    (at, at + form.payload, subst (λ (f : Form). Finds (read_contents schema (deeper_left schema left) at (at + form.payload) (take f.payload_len (drop f.payload s)) (contents_of schema fields (record_of f s)))) same (parts.1 plain))
 
 -- the records of a walk
-pub record Sound (types : List MessageType) (left : ℕ) (fields : List FieldType) (s : List ℕ) : Type 0 where
+pub record Sound (schema : Schema) (left : ℕ) (fields : List FieldType) (s : List ℕ) : Type 0 where
   pub rs : List Record
   pub are : RecordsWithin left s rs
-  pub hold : Each (Holds types left fields) rs
+  pub hold : Each (Holds schema left fields) rs
 
-pub walk_sound : (types : List MessageType) (left : ℕ) (fields : List FieldType) (skip at : ℕ) (s : List ℕ) (stop : Stop) → walk types (deeper_left types left) fields None at skip s ≡ Ok stop → Sound types left fields (drop skip s)
-walk_sound types left fields zero at [] stop e = record { rs = []; are = refl; hold = tt }
-walk_sound types left fields (suc skip) at [] stop e = record { rs = []; are = refl; hold = tt }
-walk_sound types left fields (suc skip) at (b ∷ s) stop e = walk_sound types left fields skip (suc at) s stop e
-walk_sound types left fields zero at (b ∷ s) stop e =
-    bind_ok (form_at at (b ∷ s)) (λ form. after_ends types (deeper_left types left) fields None at b s form false) stop e
+pub walk_sound : (schema : Schema) (left : ℕ) (fields : List FieldType) (skip at : ℕ) (s : List ℕ) (stop : Stop) → walk schema (deeper_left schema left) (in_message fields) at skip s ≡ Ok stop → Sound schema left fields (drop skip s)
+walk_sound schema left fields zero at [] stop e = record { rs = []; are = refl; hold = tt }
+walk_sound schema left fields (suc skip) at [] stop e = record { rs = []; are = refl; hold = tt }
+walk_sound schema left fields (suc skip) at (b ∷ s) stop e = walk_sound schema left fields skip (suc at) s stop e
+walk_sound schema left fields zero at (b ∷ s) stop e =
+    bind_ok (form_at at (b ∷ s)) (λ form. after_ends schema (deeper_left schema left) (in_message fields) at b s form false) stop e
     λ form was is.
-    bind_ok (read_held types (deeper_left types left) fields at (b ∷ s) form) (λ whole. walk types (deeper_left types left) fields None (suc at) (whole.size - 1) s) stop is
+    bind_ok (read_held schema (deeper_left schema left) fields at (b ∷ s) form) (λ whole. walk schema (deeper_left schema left) (in_message fields) (suc at) (whole.size - 1) s) stop is
     λ whole held more.
-    let found = each_found left at (b ∷ s) form whole was (held_untyped types left fields at (b ∷ s) form whole (eqb form.wire 3) refl held) in
+    let found = each_found left at (b ∷ s) form whole was (held_untyped schema left fields at (b ∷ s) form whole (eqb form.wire 3) refl held) in
     let size : suc (whole.size - 1) ≡ whole.size = omega (arith, found.some) in
-    let rest = walk_sound types left fields (whole.size - 1) (suc at) s stop more in
+    let rest = walk_sound schema left fields (whole.size - 1) (suc at) s stop more in
     record {
       rs = record_of whole (b ∷ s) ∷ rest.rs;
       are = (drop whole.size (b ∷ s), found.is, sym (take-append-drop whole.size (b ∷ s)), subst (λ n. RecordsWithin left (drop n (b ∷ s)) rest.rs) size rest.are);
-      hold = (record_holds types left fields at (b ∷ s) form whole held, rest.hold);
+      hold = (record_holds schema left fields at (b ∷ s) form whole held, rest.hold);
     }
 
 -- AND BACK
@@ -119,80 +111,80 @@ numbers_anywhere wire at at2 zero (b ∷ s) found =
     (rest.0, ap (λ r. r >>= λ n. numbers_end wire (suc at2) (n - 1) s) (scalar_anywhere wire at at2 (b ∷ s) n was) ∙ rest.1)
 
 -- what a payload is doesn't depend on where it begins
-abbrev Anywhere : List MessageType → ℕ → Type 0
-Anywhere types left = (c : Contents) (tag at tag2 at2 : ℕ) (payload : List ℕ) → Finds (read_contents types (deeper_left types left) tag at payload c) → Finds (read_contents types (deeper_left types left) tag2 at2 payload c)
+abbrev Anywhere : Schema → ℕ → Type 0
+Anywhere schema left = (c : Contents) (tag at tag2 at2 : ℕ) (payload : List ℕ) → Finds (read_contents schema (deeper_left schema left) tag at payload c) → Finds (read_contents schema (deeper_left schema left) tag2 at2 payload c)
 
 text_anywhere : (at at2 : ℕ) (b : Bool) → Finds (cond b (Ok at) (fault NotUtf8 at)) → Finds (cond b (Ok at2) (fault NotUtf8 at2))
 text_anywhere at at2 true found = (at2, refl)
 text_anywhere at at2 false found = not_ok (record { kind = NotUtf8; byte = at }) found.0 found.1
 
 -- a record at the front is read
-typed_held : (types : List MessageType) (left : ℕ) (fields : List FieldType) (at : ℕ) (s : List ℕ) (form whole : Form) → Anywhere types left → read_held [] (deeper_left [] left) [] at s form ≡ Ok whole → Holds types left fields (record_of whole s) → read_held types (deeper_left types left) fields at s form ≡ Ok whole
-typed_held types left fields at s form whole anywhere e holds = cases (eqb form.wire 3) refl
+typed_held : (schema : Schema) (left : ℕ) (fields : List FieldType) (at : ℕ) (s : List ℕ) (form whole : Form) → Anywhere schema left → read_held no_types (deeper_left no_types left) [] at s form ≡ Ok whole → Holds schema left fields (record_of whole s) → read_held schema (deeper_left schema left) fields at s form ≡ Ok whole
+typed_held schema left fields at s form whole anywhere e holds = cases (eqb form.wire 3) refl
   where
-    untyped : read_held types (deeper_left types left) [] at s form ≡ Ok whole
-    untyped = same_held types left at s form ∙ e
+    untyped : read_held schema (deeper_left schema left) [] at s form ≡ Ok whole
+    untyped = same_held schema left at s form ∙ e
 
-    plain : eqb form.wire 3 ≡ false → (u : Bool) → eqb form.wire 4 ≡ u → read_held types (deeper_left types left) fields at s form ≡ Ok whole
-    plain start true end = not_ok (record { kind = GroupEnd; byte = at }) whole (sym (held_end types (deeper_left types left) [] at s form (eqb-true form.wire 4 end)) ∙ untyped)
+    plain : eqb form.wire 3 ≡ false → (u : Bool) → eqb form.wire 4 ≡ u → read_held schema (deeper_left schema left) fields at s form ≡ Ok whole
+    plain start true end = not_ok (record { kind = GroupEnd; byte = at }) whole (sym (held_end schema (deeper_left schema left) [] at s form (eqb-true form.wire 4 end)) ∙ untyped)
     plain start false end =
         let no_start = not_three form.wire 3 start in
-        let parts = held_holds types left [] at s form whole (eqb form.wire 3) (eqb form.wire 4) refl refl untyped in
+        let parts = held_holds schema left [] at s form whole (eqb form.wire 3) (eqb form.wire 4) refl refl untyped in
         let same : form ≡ whole = parts.0 start in
         let held = holds (λ three. no_start (ap (λ (f : Form). f.wire) same ∙ three)) in
-        let here = subst (λ (f : Form). Finds (read_contents types (deeper_left types left) held.0 held.1 (take f.payload_len (drop f.payload s)) (contents_of fields f.number f.wire))) (sym same) held.2 in
-        let there = anywhere (contents_of fields form.number form.wire) held.0 held.1 at (at + form.payload) (take form.payload_len (drop form.payload s)) here in
-        held_plain types (deeper_left types left) fields at s form no_start (not_three form.wire 4 end) ∙ (ap (λ r. r >>= λ _. Ok form) there.1 ∙ ap Ok same)
+        let here = subst (λ (f : Form). Finds (read_contents schema (deeper_left schema left) held.0 held.1 (take f.payload_len (drop f.payload s)) (contents_of schema fields (record_of f s)))) (sym same) held.2 in
+        let there = anywhere (contents_of schema fields (record_of form s)) held.0 held.1 at (at + form.payload) (take form.payload_len (drop form.payload s)) here in
+        held_plain schema (deeper_left schema left) fields at s form no_start (not_three form.wire 4 end) ∙ (ap (λ r. r >>= λ _. Ok form) there.1 ∙ ap Ok same)
 
-    cases : (t : Bool) → eqb form.wire 3 ≡ t → read_held types (deeper_left types left) fields at s form ≡ Ok whole
-    cases true start = ap (if_start types (deeper_left types left) fields at s form) start ∙ (sym (ap (if_start types (deeper_left types left) [] at s form) start) ∙ untyped)
+    cases : (t : Bool) → eqb form.wire 3 ≡ t → read_held schema (deeper_left schema left) fields at s form ≡ Ok whole
+    cases true start = group_same schema (deeper_left schema left) fields at s form start ∙ untyped
     cases false start = plain start (eqb form.wire 4) refl
 
-sound_walk_at : (types : List MessageType) (left : ℕ) (fields : List FieldType) → Anywhere types left → (rs : List Record) (at : ℕ) (s : List ℕ) → RecordsWithin left s rs → Each (Holds types left fields) rs → Finds (walk types (deeper_left types left) fields None at 0 s)
-sound_walk_at types left fields anywhere [] at s are hold = ((at, at), ap (walk types (deeper_left types left) fields None at 0) are)
-sound_walk_at types left fields anywhere (r ∷ rs) at s are hold =
+sound_walk_at : (schema : Schema) (left : ℕ) (fields : List FieldType) → Anywhere schema left → (rs : List Record) (at : ℕ) (s : List ℕ) → RecordsWithin left s rs → Each (Holds schema left fields) rs → Finds (walk schema (deeper_left schema left) (in_message fields) at 0 s)
+sound_walk_at schema left fields anywhere [] at s are hold = ((at, at), ap (walk schema (deeper_left schema left) (in_message fields) at 0) are)
+sound_walk_at schema left fields anywhere (r ∷ rs) at s are hold =
     let rest = are.0 in
     let front = each_front left at s rest r are.1 are.2 in
     let whole = front.whole in
-    let held = typed_held types left fields at s front.form whole anywhere front.held (subst (Holds types left fields) (sym front.is) hold.0) in
+    let held = typed_held schema left fields at s front.form whole anywhere front.held (subst (Holds schema left fields) (sym front.is) hold.0) in
     let some = record_size left r are.1 in
     let behind : drop whole.size s ≡ rest = ap (λ n. drop n s) front.size ∙ (ap (drop (length r.span)) are.2 ∙ drop_at r.span rest (length r.span) refl) in
-    let more = sound_walk_at types left fields anywhere rs (at + whole.size) rest are.3 hold.1 in (
+    let more = sound_walk_at schema left fields anywhere rs (at + whole.size) rest are.3 hold.1 in (
       more.0,
-      walk_more types (deeper_left types left) fields None at s front.form whole front.form_is refl held (omega (arith, front.size, some)) (omega (arith, front.size, ap length are.2, length-append r.span rest))
-          ∙ (ap (walk types (deeper_left types left) fields None (at + whole.size) 0) behind ∙ more.1),
+      walk_more schema (deeper_left schema left) (in_message fields) at s front.form whole front.form_is refl held (omega (arith, front.size, some)) (omega (arith, front.size, ap length are.2, length-append r.span rest))
+          ∙ (ap (walk schema (deeper_left schema left) (in_message fields) (at + whole.size) 0) behind ∙ more.1),
     )
 
 -- a message one level deeper
-pub deeper_is : {P : Type 0} (types : List MessageType) (deeper : Deeper) (tag at : ℕ) (payload : List ℕ) (type_no : ℕ) → Finds (read_contents types deeper tag at payload (Message type_no)) → (Finds (deeper tag (fields_of types type_no) None at payload) → P) → P
-deeper_is types deeper tag at payload type_no found k =
-    bind_ok (deeper tag (fields_of types type_no) None at payload) (λ stop. Ok stop.1) found.0 found.1 λ stop was is. k (stop, was)
+pub deeper_is : {P : Type 0} (schema : Schema) (deeper : Deeper) (tag at : ℕ) (payload : List ℕ) (type_no : ℕ) → Finds (read_contents schema deeper tag at payload (Message type_no)) → (Finds (deeper tag (in_message (fields_of schema type_no)) at payload) → P) → P
+deeper_is schema deeper tag at payload type_no found k =
+    bind_ok (deeper tag (in_message (fields_of schema type_no)) at payload) (λ stop. Ok stop.1) found.0 found.1 λ stop was is. k (stop, was)
 
-anywhere : (types : List MessageType) (left : ℕ) → Anywhere types left
-anywhere types left Anything tag at tag2 at2 payload found = (at2, refl)
-anywhere types left (Numbers wire) tag at tag2 at2 payload found = numbers_anywhere wire at at2 0 payload found
-anywhere types left Utf8 tag at tag2 at2 payload found = text_anywhere at at2 (is_utf8 payload) found
-anywhere types zero (Message type_no) tag at tag2 at2 payload found =
-    deeper_is types (deeper_left types 0) tag at payload type_no found λ stop. not_ok (record { kind = TooDeep; byte = tag }) stop.0 stop.1
-anywhere types (suc left) (Message type_no) tag at tag2 at2 payload found =
-    deeper_is types (deeper_left types (suc left)) tag at payload type_no found
+anywhere : (schema : Schema) (left : ℕ) → Anywhere schema left
+anywhere schema left Anything tag at tag2 at2 payload found = (at2, refl)
+anywhere schema left (Numbers wire) tag at tag2 at2 payload found = numbers_anywhere wire at at2 0 payload found
+anywhere schema left Utf8 tag at tag2 at2 payload found = text_anywhere at at2 (is_utf8 payload) found
+anywhere schema zero (Message type_no) tag at tag2 at2 payload found =
+    deeper_is schema (deeper_left schema 0) tag at payload type_no found λ stop. not_ok (record { kind = TooDeep; byte = tag }) stop.0 stop.1
+anywhere schema (suc left) (Message type_no) tag at tag2 at2 payload found =
+    deeper_is schema (deeper_left schema (suc left)) tag at payload type_no found
     λ stop.
-    let sound = walk_sound types left (fields_of types type_no) 0 at payload stop.0 (sym (walk_left_is types left tag (fields_of types type_no) None at payload) ∙ stop.1) in
-    let again = sound_walk_at types left (fields_of types type_no) (anywhere types left) sound.rs at2 payload sound.are sound.hold in
-    (again.0.1, ap (λ r. r >>= λ stop. Ok stop.1) (walk_left_is types left tag2 (fields_of types type_no) None at2 payload ∙ again.1))
+    let sound = walk_sound schema left (fields_of schema type_no) 0 at payload stop.0 (sym (walk_left_is schema left tag (in_message (fields_of schema type_no)) at payload) ∙ stop.1) in
+    let again = sound_walk_at schema left (fields_of schema type_no) (anywhere schema left) sound.rs at2 payload sound.are sound.hold in
+    (again.0.1, ap (λ r. r >>= λ stop. Ok stop.1) (walk_left_is schema left tag2 (in_message (fields_of schema type_no)) at2 payload ∙ again.1))
 
-pub sound_walk : (types : List MessageType) (left : ℕ) (fields : List FieldType) (at : ℕ) (s : List ℕ) → Sound types left fields s → Finds (walk types (deeper_left types left) fields None at 0 s)
-sound_walk types left fields at s p = sound_walk_at types left fields (anywhere types left) p.rs at s p.are p.hold
+pub sound_walk : (schema : Schema) (left : ℕ) (fields : List FieldType) (at : ℕ) (s : List ℕ) → Sound schema left fields s → Finds (walk schema (deeper_left schema left) (in_message fields) at 0 s)
+sound_walk schema left fields at s p = sound_walk_at schema left fields (anywhere schema left) p.rs at s p.are p.hold
 
 -- ONE BEHIND THE OTHER
 
-spans_join : (A : List ℕ → Type 0) (xs ys : List Record) (s t : List ℕ) → Spans A xs s → Spans A ys t → Spans A (xs ++ ys) (s ++ t)
+pub spans_join : (A : List ℕ → Type 0) (xs ys : List Record) (s t : List ℕ) → Spans A xs s → Spans A ys t → Spans A (xs ++ ys) (s ++ t)
 spans_join A [] ys s t p q = subst (Spans A ys) (sym (ap (λ x. x ++ t) p)) q
 spans_join A (x ∷ xs) ys s t p q = (p.0 ++ t, p.1, ap (λ x. x ++ t) p.2 ∙ append_assoc x.span p.0 t, spans_join A xs ys p.0 t p.3 q)
 
-pub sound_join : (types : List MessageType) (left : ℕ) (fields : List FieldType) (s t : List ℕ) → Sound types left fields s → Sound types left fields t → Sound types left fields (s ++ t)
-sound_join types left fields s t p q = record {
+pub sound_join : (schema : Schema) (left : ℕ) (fields : List FieldType) (s t : List ℕ) → Sound schema left fields s → Sound schema left fields t → Sound schema left fields (s ++ t)
+sound_join schema left fields s t p q = record {
   rs = p.rs ++ q.rs;
   are = spans_join (AreRecords left) p.rs q.rs s t p.are q.are;
-  hold = each_join (Holds types left fields) p.rs q.rs p.hold q.hold;
+  hold = each_join (Holds schema left fields) p.rs q.rs p.hold q.hold;
 }

@@ -1,22 +1,19 @@
 -- What is written for a message of `pb.Tick` is read back, its unknown bytes too.
-use Rattle.std.proofs.Common.{◌≡◌, ℕ, zero, suc, ◌^◌, ◌<◌, List, [], ◌∷◌, ◌++◌, Bool, true, false, not, cond, ◌&&◌, ◌||◌, eqb, Option, None, Some, refl, sym, ap, ◌∙◌, subst, arith, append-nil, ⊎_elim}
-use Rattle.std.specs.Prelude.{flat_map}
-use Rattle.std.specs.List.{filter}
+use Rattle.std.proofs.Common.{◌≡◌, ℕ, zero, suc, ◌^◌, ◌<◌, List, [], ◌∷◌, ◌++◌, Bool, true, false, cond, ◌&&◌, ◌||◌, eqb, Option, None, Some, refl, sym, ap, ◌∙◌, subst, arith, append-nil, ⊎_elim}
+use Rattle.std.specs.List.{filter, concat}
 use Rattle.std.proofs.lemmas.Bool.{ne_eqb, cases_eq}
 use Rattle.pb_schema.specs.declared.kind.FieldType.{FieldType}
-use Rattle.pb_schema.specs.declared.schema.MessageType.{MessageType}
 use Rattle.pb_schema.specs.declared.wire_fault.WireFault.{WireFault}
 use Rattle.pb_schema.specs.Varint.{Varint, tag_bytes, value_bytes, varint_of}
 use Rattle.pb_schema.specs.Tag.{IsTag, tag_of}
 use Rattle.pb_schema.specs.Reads.{fault_read}
-use Rattle.pb_schema.specs.Fits.{Contents, Anything, Numbers, contents_of, fits, fits_any}
-use Rattle.pb_schema.specs.Walk.{read_contents, deeper_left}
-use Rattle.pb_schema.specs.Fault.{fault_of, most_levels}
+use Rattle.pb_schema.specs.Fits.{Contents, Anything, Numbers, contents_of, takes, fields_of}
+use Rattle.pb_schema.specs.Walk.{in_message, read_contents, deeper_left}
+use Rattle.pb_schema.specs.Broken.{broken_of, most_levels}
 use Rattle.pb_schema.specs.Records.{Record, IsRecord, AreRecords, RecordsWithin}
 use Rattle.pb_schema.specs.Tree.{Held, Nothing, One, Many, Number, Bytes, Sub, Tree, Message, NoFields, FieldAnd}
 use Rattle.pb_schema.specs.TreeOf.{tree_of, tree_left, gathered, or_none, number_in, unknown_of, unless_default, last_held, Nest}
-use Rattle.pb_schema.specs.Fits.{fields_of}
-use Rattle.pb_schema.specs.Fitted.{FitNone, Fitted}
+use Rattle.pb_schema.specs.Fitted.{NoneTaken, Fitted}
 use Rattle.pb_schema.specs.Text.{text_of}
 use Rattle.pb_schema.specs.Builtin.{builtin, tick_type, field}
 use Rattle.pb_schema.specs.declared.kind.Kind.TheVariants as kinds
@@ -25,10 +22,8 @@ use Rattle.pb_schema.proofs.Steps.{length-varint_of}
 use Rattle.pb_schema.proofs.VarintLaws.{varint_of_is}
 use Rattle.pb_schema.proofs.WalkSteps.{walk_left_is}
 use Rattle.pb_schema.proofs.RecordsFront.{records_of_spans}
-use Rattle.pb_schema.proofs.SoundRecords.{Finds, Each, Holds, sound_walk}
-
-abbrev types : List MessageType
-types = builtin.types
+use Rattle.pb_schema.proofs.SoundRecords.{Finds, Holds, sound_walk}
+use Rattle.pb_schema.proofs.Runs.{Each}
 
 abbrev fields : List FieldType
 fields = tick_type.fields
@@ -42,41 +37,40 @@ packed_is_none : (b : Bool) → cond (b && false) (Numbers 0) Anything ≡ Anyth
 packed_is_none true = refl
 packed_is_none false = refl
 
-pub tick_asks_nothing : (number wire : ℕ) → contents_of tick_type.fields number wire ≡ Anything
-tick_asks_nothing number wire =
+pub tick_asks_nothing : (r : Record) → contents_of builtin tick_type.fields r ≡ Anything
+tick_asks_nothing r =
     ⊎_elim
-    (λ (two : wire ≡ 2). subst (λ w. contents_of tick_type.fields number w ≡ Anything) (sym two) (packed_is_none (eqb 1 number)))
-    (λ other. either_is _ _ (ap (λ c. cond c (Numbers 0) Anything) (ne_eqb wire 2 other)))
-    (cases_eq wire 2)
+    (λ (two : r.wire ≡ 2). subst (λ w. cond (eqb 1 r.number && (eqb w 0 || (eqb w 2 && false))) (cond (eqb w 2) (Numbers 0) Anything) Anything ≡ Anything) (sym two) (packed_is_none (eqb 1 r.number)))
+    (λ other. either_is _ _ (ap (λ c. cond c (Numbers 0) Anything) (ne_eqb r.wire 2 other)))
+    (cases_eq r.wire 2)
 
-all_hold : (rs : List Record) → Each (Holds types most_levels fields) rs
+all_hold : (rs : List Record) → Each (Holds builtin most_levels fields) rs
 all_hold [] = tt
 all_hold (r ∷ rs) =
-    (λ other. (0, 0, subst (λ c. Finds (read_contents types (deeper_left types most_levels) 0 0 r.payload c)) (sym (tick_asks_nothing r.number r.wire)) (0, refl)), all_hold rs)
+    (λ other. (0, 0, subst (λ c. Finds (read_contents builtin (deeper_left builtin most_levels) 0 0 r.payload c)) (sym (tick_asks_nothing r)) (0, refl)), all_hold rs)
 
-no_fault : (rs : List Record) (s : List ℕ) → RecordsWithin most_levels s rs → fault_of builtin 0 0 s ≡ None
+no_fault : (rs : List Record) (s : List ℕ) → RecordsWithin most_levels s rs → broken_of builtin 0 0 s ≡ None
 no_fault rs s are =
-    let walked = sound_walk types most_levels fields 0 s (record { rs = rs; are = are; hold = all_hold rs }) in
-    ap fault_read (walk_left_is types most_levels 0 fields None 0 s ∙ walked.1)
+    let walked = sound_walk builtin most_levels fields 0 s (record { rs = rs; are = are; hold = all_hold rs }) in
+    ap fault_read (walk_left_is builtin most_levels 0 (in_message fields) 0 s ∙ walked.1)
 
 -- RECORDS THAT DON'T FIT
 
-abbrev fits_field : Record → Bool
-fits_field r = fits (field 1 kinds.UInt64 cards.Implicit) r.number r.wire
+abbrev takes_it : Record → Bool
+takes_it r = takes builtin (field 1 kinds.UInt64 cards.Implicit) r
 
 or_false : (b : Bool) → (b || false) ≡ b
 or_false true = refl
 or_false false = refl
 
-none_fit : (rs : List Record) → FitNone fields rs → filter fits_field rs ≡ []
-none_fit [] p = refl
-none_fit (r ∷ rs) p = ap (λ b. cond b (r ∷ filter fits_field rs) (filter fits_field rs)) (sym (or_false (fits_field r)) ∙ p.0) ∙ none_fit rs p.1
+none_taken : (rs : List Record) → NoneTaken builtin fields rs → filter takes_it rs ≡ []
+none_taken [] p = refl
+none_taken (r ∷ rs) p = ap (λ b. cond b (r ∷ filter takes_it rs) (filter takes_it rs)) (sym (or_false (takes_it r)) ∙ p.0) ∙ none_taken rs p.1
 
-all_unknown : (rs : List Record) (s : List ℕ) → FitNone fields rs → RecordsWithin most_levels s rs → unknown_of fields rs ≡ s
+all_unknown : (rs : List Record) (s : List ℕ) → NoneTaken builtin fields rs → RecordsWithin most_levels s rs → unknown_of builtin fields rs ≡ s
 all_unknown [] s p are = sym are
 all_unknown (r ∷ rs) s p are =
-    let rest = filter (λ (q : Record). not (fits_any fields q.number q.wire)) rs in
-    ap (λ b. flat_map (λ (q : Record). q.span) (cond (not b) (r ∷ rest) rest)) p.0 ∙ (ap (λ x. r.span ++ x) (all_unknown rs are.0 p.1 are.3) ∙ sym are.2)
+    ap (λ b. cond b [] r.span ++ unknown_of builtin fields rs) p.0 ∙ (ap (λ x. r.span ++ x) (all_unknown rs are.0 p.1 are.3) ∙ sym are.2)
 
 -- THE FIELD'S RECORD
 
@@ -95,29 +89,29 @@ is_record v h =
 -- TREES
 
 abbrev tree_unless : List ℕ → Option WireFault → Option Tree
-tree_unless s o = elim o [ None ↦ Some (tree_left types most_levels (fields_of types 0) s) | Some fault ↦ None ]
+tree_unless s o = elim o [ None ↦ Some (tree_left builtin most_levels (fields_of builtin 0) s) | Some fault ↦ None ]
 
--- the tree of records, by what fits and what doesn't
-tree_is : (rs : List Record) (s : List ℕ) (held : Held) (unknown : List ℕ) → RecordsWithin most_levels s rs → unless_default (last_held (λ r. Number (number_in 0 r.payload)) (filter fits_field rs)) ≡ held → unknown_of fields rs ≡ unknown
+-- the tree of records, by what is taken and what isn't
+tree_is : (rs : List Record) (s : List ℕ) (held : Held) (unknown : List ℕ) → RecordsWithin most_levels s rs → unless_default (last_held (λ r. Number (number_in 0 r.payload)) (filter takes_it rs)) ≡ held → unknown_of builtin fields rs ≡ unknown
     → tree_of builtin 0 s ≡ Some (Message (FieldAnd held NoFields) unknown)
 tree_is rs s held unknown are value rest =
-    let nest : Nest = λ type_no payload. tree_left types 99 (fields_of types type_no) payload in
+    let nest : Nest (List ℕ) = λ type_no payloads. tree_left builtin 99 (fields_of builtin type_no) (concat payloads) in
     ap (tree_unless s) (no_fault rs s are)
-    ∙ (ap (λ o. Some (gathered nest fields (or_none o))) (records_of_spans 100 rs s are)
-    ∙ (ap (λ h. Some (Message (FieldAnd h NoFields) (unknown_of fields rs))) value ∙ ap (λ u. Some (Message (FieldAnd held NoFields) u)) rest))
+    ∙ (ap (λ o. Some (gathered builtin nest fields (or_none o) (unknown_of builtin fields (or_none o)))) (records_of_spans 100 rs s are)
+    ∙ (ap (λ h. Some (Message (FieldAnd h NoFields) (unknown_of builtin fields rs))) value ∙ ap (λ u. Some (Message (FieldAnd held NoFields) u)) rest))
 
-none_read : (unknown : List ℕ) (rs : List Record) → RecordsWithin most_levels unknown rs → FitNone fields rs → tree_of builtin 0 unknown ≡ Some (Message (FieldAnd Nothing NoFields) unknown)
+none_read : (unknown : List ℕ) (rs : List Record) → RecordsWithin most_levels unknown rs → NoneTaken builtin fields rs → tree_of builtin 0 unknown ≡ Some (Message (FieldAnd Nothing NoFields) unknown)
 none_read unknown rs are none =
-    tree_is rs unknown Nothing unknown are (ap (λ xs. unless_default (last_held (λ r. Number (number_in 0 r.payload)) xs)) (none_fit rs none)) (all_unknown rs unknown none are)
+    tree_is rs unknown Nothing unknown are (ap (λ xs. unless_default (last_held (λ r. Number (number_in 0 r.payload)) xs)) (none_taken rs none)) (all_unknown rs unknown none are)
 
-one_read : (v : ℕ) (unknown : List ℕ) (rs : List Record) → suc v < 2 ^ 64 → RecordsWithin most_levels unknown rs → FitNone fields rs
+one_read : (v : ℕ) (unknown : List ℕ) (rs : List Record) → suc v < 2 ^ 64 → RecordsWithin most_levels unknown rs → NoneTaken builtin fields rs
     → tree_of builtin 0 ((varint_of (tag_of 1 0) ++ varint_of (suc v)) ++ unknown) ≡ Some (Message (FieldAnd (One (Number (suc v))) NoFields) unknown)
 unfolding tick_record
 one_read v unknown rs h are none =
     let r = tick_record (suc v) in
     let s = r.span ++ unknown in
     tree_is (r ∷ rs) s (One (Number (suc v))) unknown (unknown, is_record (suc v) h, refl, are)
-    (ap (λ xs. unless_default (last_held (λ r. Number (number_in 0 r.payload)) (r ∷ xs))) (none_fit rs none) ∙ ap (λ n. unless_default (One (Number n))) (sym (value_spelled (suc v) h).value))
+    (ap (λ xs. unless_default (last_held (λ r. Number (number_in 0 r.payload)) (r ∷ xs))) (none_taken rs none) ∙ ap (λ n. unless_default (One (Number n))) (sym (value_spelled (suc v) h).value))
     (all_unknown rs unknown none are)
 
 pub tick_read_back : (t : Tree) → Fitted builtin 0 t → tree_of builtin 0 (text_of builtin 0 t) ≡ Some t

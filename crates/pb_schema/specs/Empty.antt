@@ -5,17 +5,16 @@ use Rattle.pb_schema.specs.declared.kind.Card.TheVariants as cards
 use Rattle.pb_schema.specs.declared.kind.FieldType.{FieldType}
 use Rattle.pb_schema.specs.declared.schema.Schema.{Schema}
 use Rattle.pb_schema.specs.Fits.{fields_of}
-use Rattle.pb_schema.specs.Tree.{Held, Nothing, Many, NoValues, Tree, Message, held_list}
+use Rattle.pb_schema.specs.Tree.{HeldWith, Nothing, Many, NoValues, TreeWith, Tree, Message, held_list}
 
 -- a list has no values, any other field holds nothing
-abbrev pub unset : Card → Held
-unset cards.Implicit = Nothing
-unset cards.Explicit = Nothing
-unset (cards.Member oneof) = Nothing
+abbrev pub unset : {U : Type 0} → Card → HeldWith U
 unset (cards.Repeated packed) = Many NoValues
+unset _ = Nothing
 
-abbrev pub empty_with : List FieldType → Tree
-empty_with fields = Message (held_list (map (λ field. unset field.card) fields)) []
+-- the message with these fields that has nothing set, where this is what has nothing unknown
+abbrev pub empty_with : {U : Type 0} → U → List FieldType → TreeWith U
+empty_with unknown fields = Message (held_list (map (λ field. unset field.card) fields)) unknown
 
 abbrev pub empty : Schema → ℕ → Tree
-empty schema type_no = empty_with (fields_of schema.types type_no)
+empty schema type_no = empty_with [] (fields_of schema type_no)

@@ -1,5 +1,5 @@
 -- The kinds of value: their wire types, and how a number stands on the wire and as a bit pattern (encoding guide, "Condensed Reference Card" and "More Integer Types"; proto3 guide, "Scalar Value Types"; descriptor.proto, `FieldDescriptorProto.Type`).
--- Each rule about kinds is a rule over the table `shape_of`.
+-- Each rule about kinds is a rule over the table `value_type_of`.
 use Rattle.std.specs.Prelude.{◌+◌, ◌-◌, ◌*◌, ◌/◌, ◌%◌, ◌^◌, ℕ, Bool, true, false, nat_lt, ◌==◌, if◌then◌else◌}
 use Rattle.pb_schema.specs.declared.kind.Kind.{Kind}
 use Rattle.pb_schema.specs.declared.kind.Kind.TheVariants as kinds
@@ -18,11 +18,11 @@ pub record Coding : Type 0 where
   pub spelled : ℕ → ℕ
 
 -- what a value of a kind is: a number, text in UTF-8, bytes, or a message of the type with this number
-pub data Shape : Type 0 where
-  Scalar : Coding → Shape
-  Characters : Shape
-  Octets : Shape
-  Nested : ℕ → Shape
+pub data ValueType : Type 0 where
+  Scalar : Coding → ValueType
+  Characters : ValueType
+  Octets : ValueType
+  Nested : ℕ → ValueType
 
 -- 32 bits
 abbrev pub low_32 : ℕ → ℕ
@@ -44,57 +44,53 @@ abbrev pub unzigzag : ℕ → ℕ → ℕ
 unzigzag patterns v = if v % 2 == 0 then v / 2 else patterns - (v + 1) / 2
 
 -- four or eight bytes, whose number is the pattern
-abbrev pub four_bytes : Shape
+abbrev pub four_bytes : ValueType
 four_bytes = Scalar (record { wire = 5; slot = 4; patterns = 2 ^ 32; kept = λ v. v; spelled = λ p. p })
 
-abbrev pub eight_bytes : Shape
+abbrev pub eight_bytes : ValueType
 eight_bytes = Scalar (record { wire = 1; slot = 8; patterns = 2 ^ 64; kept = λ v. v; spelled = λ p. p })
 
 -- a varint that is the pattern, of 64 bits
-abbrev pub plain_64 : Shape
+abbrev pub plain_64 : ValueType
 plain_64 = Scalar (record { wire = 0; slot = 8; patterns = 2 ^ 64; kept = λ v. v; spelled = λ p. p })
 
 -- a varint whose low 32 bits are the pattern; it is written with its sign
-abbrev pub signed_32 : Shape
+abbrev pub signed_32 : ValueType
 signed_32 = Scalar (record { wire = 0; slot = 4; patterns = 2 ^ 32; kept = low_32; spelled = sign_extended })
 
 -- THE TABLE
-abbrev pub shape_of : Kind → Shape
-shape_of kinds.Double = eight_bytes
-shape_of kinds.Float = four_bytes
-shape_of kinds.Int64 = plain_64
-shape_of kinds.UInt64 = plain_64
-shape_of kinds.Int32 = signed_32
-shape_of kinds.Fixed64 = eight_bytes
-shape_of kinds.Fixed32 = four_bytes
-shape_of kinds.Bool = Scalar (record { wire = 0; slot = 1; patterns = 2; kept = truth; spelled = λ p. p })
-shape_of kinds.Text = Characters
-shape_of (kinds.Message type_no) = Nested type_no
-shape_of kinds.Bytes = Octets
-shape_of kinds.UInt32 = Scalar (record { wire = 0; slot = 4; patterns = 2 ^ 32; kept = low_32; spelled = λ p. p })
-shape_of kinds.Enumeration = signed_32
-shape_of kinds.SFixed32 = four_bytes
-shape_of kinds.SFixed64 = eight_bytes
-shape_of kinds.SInt32 = Scalar (record { wire = 0; slot = 4; patterns = 2 ^ 32; kept = λ v. unzigzag (2 ^ 32) (low_32 v); spelled = zigzag (2 ^ 32) })
-shape_of kinds.SInt64 = Scalar (record { wire = 0; slot = 8; patterns = 2 ^ 64; kept = unzigzag (2 ^ 64); spelled = zigzag (2 ^ 64) })
+abbrev pub value_type_of : Kind → ValueType
+value_type_of kinds.Double = eight_bytes
+value_type_of kinds.Float = four_bytes
+value_type_of kinds.Int64 = plain_64
+value_type_of kinds.UInt64 = plain_64
+value_type_of kinds.Int32 = signed_32
+value_type_of kinds.Fixed64 = eight_bytes
+value_type_of kinds.Fixed32 = four_bytes
+value_type_of kinds.Bool = Scalar (record { wire = 0; slot = 1; patterns = 2; kept = truth; spelled = λ p. p })
+value_type_of kinds.Text = Characters
+value_type_of (kinds.Message type_no) = Nested type_no
+value_type_of kinds.Bytes = Octets
+value_type_of kinds.UInt32 = Scalar (record { wire = 0; slot = 4; patterns = 2 ^ 32; kept = low_32; spelled = λ p. p })
+value_type_of kinds.Enumeration = signed_32
+value_type_of kinds.SFixed32 = four_bytes
+value_type_of kinds.SFixed64 = eight_bytes
+value_type_of kinds.SInt32 = Scalar (record { wire = 0; slot = 4; patterns = 2 ^ 32; kept = λ v. unzigzag (2 ^ 32) (low_32 v); spelled = zigzag (2 ^ 32) })
+value_type_of kinds.SInt64 = Scalar (record { wire = 0; slot = 8; patterns = 2 ^ 64; kept = unzigzag (2 ^ 64); spelled = zigzag (2 ^ 64) })
 
 -- the wire type of a value by itself
-abbrev pub wire_of : Shape → ℕ
-wire_of (Scalar coding) = coding.wire
-wire_of Characters = 2
-wire_of Octets = 2
-wire_of (Nested type_no) = 2
+abbrev pub value_wire : ValueType → ℕ
+value_wire (Scalar coding) = coding.wire
+value_wire _ = 2
 
 -- how many bytes a record in memory has for a single value
-abbrev pub slot_of : Shape → ℕ
+abbrev pub slot_of : ValueType → ℕ
 slot_of (Scalar coding) = coding.slot
 slot_of Characters = 24
 slot_of Octets = 24
 slot_of (Nested type_no) = 16
 
 -- number kinds are all but text, bytes and messages
-abbrev pub is_number : Shape → Bool
+abbrev pub is_number : ValueType → Bool
 is_number (Scalar coding) = true
-is_number Characters = false
-is_number Octets = false
-is_number (Nested type_no) = false
+is_number _ = false

@@ -5,7 +5,7 @@ use Rattle.pb_schema.specs.declared.kind.Card.TheVariants as cards
 use Rattle.pb_schema.specs.declared.kind.FieldType.{FieldType}
 use Rattle.pb_schema.specs.declared.schema.MessageType.{MessageType}
 use Rattle.pb_schema.specs.declared.schema.Schema.{Schema}
-use Rattle.pb_schema.specs.Kinds.{Shape, Scalar, Characters, Octets, Nested, shape_of, is_number}
+use Rattle.pb_schema.specs.Kinds.{ValueType, Nested, value_type_of, is_number}
 
 abbrev pub most_types : ℕ
 most_types = 4096
@@ -22,28 +22,24 @@ NumbersAscend least [] = ⊤
 NumbersAscend least (field ∷ fields) = (least ≤ field.number) × (field.number ≤ 2 ^ 29 - 1) × NumbersAscend (field.number + 1) fields
 
 -- a message is of a type that there is
-abbrev pub IsNamed : ℕ → Shape → Type 0
-IsNamed types (Scalar coding) = ⊤
-IsNamed types Characters = ⊤
-IsNamed types Octets = ⊤
+abbrev pub IsNamed : ℕ → ValueType → Type 0
 IsNamed types (Nested type_no) = type_no < types
+IsNamed types _ = ⊤
 
-abbrev pub IsNoMessage : Shape → Type 0
-IsNoMessage (Scalar coding) = ⊤
-IsNoMessage Characters = ⊤
-IsNoMessage Octets = ⊤
+abbrev pub IsNoMessage : ValueType → Type 0
 IsNoMessage (Nested type_no) = ⊥
+IsNoMessage _ = ⊤
 
 -- a message is told from none, a member's oneof is one of the type's, and numbers alone are packed
-abbrev pub CardAllowed : ℕ → Shape → Card → Type 0
-CardAllowed oneofs shape cards.Implicit = IsNoMessage shape
-CardAllowed oneofs shape cards.Explicit = ⊤
-CardAllowed oneofs shape (cards.Member oneof) = oneof < oneofs
-CardAllowed oneofs shape (cards.Repeated packed) = IsTrue packed → IsTrue (is_number shape)
+abbrev pub CardAllowed : ℕ → ValueType → Card → Type 0
+CardAllowed oneofs type cards.Implicit = IsNoMessage type
+CardAllowed oneofs type cards.Explicit = ⊤
+CardAllowed oneofs type (cards.Member oneof) = oneof < oneofs
+CardAllowed oneofs type (cards.Repeated packed) = IsTrue packed → IsTrue (is_number type)
 
 abbrev pub FieldsAllowed : ℕ → ℕ → List FieldType → Type 0
 FieldsAllowed types oneofs [] = ⊤
-FieldsAllowed types oneofs (field ∷ fields) = IsNamed types (shape_of field.kind) × CardAllowed oneofs (shape_of field.kind) field.card × FieldsAllowed types oneofs fields
+FieldsAllowed types oneofs (field ∷ fields) = IsNamed types (value_type_of field.kind) × CardAllowed oneofs (value_type_of field.kind) field.card × FieldsAllowed types oneofs fields
 
 -- a message type of a schema with so many types
 pub record TypeAllowed (types : ℕ) (type : MessageType) : Type 0 where

@@ -1,18 +1,13 @@
 -- Records: a tag and a payload, one after another (encoding guide, "Message Structure" and "Groups").
-use Rattle.std.specs.Prelude.{◌≡◌, ◌-◌, ◌^◌, ◌<◌, ℕ, zero, suc, List, [], ◌∷◌, ◌++◌, length, take, drop, Option, None, Some}
+use Rattle.std.specs.Prelude.{◌≡◌, ◌-◌, ◌^◌, ◌<◌, ℕ, zero, suc, List, [], ◌∷◌, ◌++◌, length, Option, None, Some}
 use Rattle.std.specs.Option.{option_map}
 use Rattle.pb_schema.specs.Varint.{Varint, value_bytes, length_bytes}
 use Rattle.pb_schema.specs.Tag.{IsTag}
 use Rattle.pb_schema.specs.Reads.{value_read}
 use Rattle.pb_schema.specs.Form.{Form}
+use Rattle.pb_schema.specs.Fits.{no_types}
 use Rattle.pb_schema.specs.Walk.{record_left}
-
--- a record: its field's number, its wire type, its payload, and its span, which is all of its bytes
-pub record Record : Type 0 where
-  pub number : ℕ
-  pub wire : ℕ
-  pub payload : List ℕ
-  pub span : List ℕ
+pub use Rattle.pb_schema.specs.Record.{Record, record_of}
 
 -- what stands behind the tag: the payload by itself, a length in front of it, or the end of the group behind it
 abbrev pub Spells : (List ℕ → Type 0) → ℕ → ℕ → List ℕ → List ℕ → Type 0
@@ -46,10 +41,6 @@ RecordsWithin levels s rs = Spans (AreRecords levels) rs s
 abbrev pub Records : List ℕ → List Record → Type 0
 Records s rs = (levels : ℕ) × RecordsWithin levels s rs
 
--- the record of this form at the front
-abbrev pub record_of : Form → List ℕ → Record
-record_of form s = record { number = form.number; wire = form.wire; payload = take form.payload_len (drop form.payload s); span = take form.size s }
-
 -- the records behind some bytes that are skipped, by a function that finds the first
 abbrev pub records_from : (List ℕ → Option Form) → ℕ → List ℕ → Option (List Record)
 records_from first skip [] = Some []
@@ -58,7 +49,7 @@ records_from first zero (b ∷ s) = elim (first (b ∷ s)) [ None ↦ None | Som
 
 -- the records, where groups are nested at most so many levels
 abbrev pub records_within : ℕ → List ℕ → Option (List Record)
-records_within levels s = records_from (λ s. value_read (record_left [] levels [] 0 s)) 0 s
+records_within levels s = records_from (λ s. value_read (record_left no_types levels [] 0 s)) 0 s
 
 -- the records; there aren't more levels than bytes
 abbrev pub records_of : List ℕ → Option (List Record)

@@ -1,25 +1,29 @@
 -- How large a tree is, in units: a message has 1, its unknown bytes and the units of its values; a number has 1, text and bytes have 1 and their length. The units are this project's own.
 use Rattle.std.specs.Prelude.{◌+◌, ℕ, length}
-use Rattle.pb_schema.specs.Tree.{Value, Number, Bytes, Sub, Held, Nothing, One, Many, Tree, Message, ValueList, NoValues, ValueAnd, HeldList, NoFields, FieldAnd}
+use Rattle.pb_schema.specs.Tree.{ValueWith, Number, Bytes, Sub, HeldWith, Nothing, One, Many, TreeWith, Tree, Message, ValueListWith, NoValues, ValueAnd, HeldListWith, NoFields, FieldAnd}
 
 abbrev mutual
-  pub value_units : Value → ℕ
-  value_units (Number p) = 1
-  value_units (Bytes s) = 1 + length s
-  value_units (Sub t) = units_of t
+  -- by the size of what is unknown
+  pub value_units : {U : Type 0} → (U → ℕ) → ValueWith U → ℕ
+  value_units size (Number p) = 1
+  value_units size (Bytes s) = 1 + length s
+  value_units size (Sub t) = tree_units size t
 
-  pub held_units : Held → ℕ
-  held_units Nothing = 0
-  held_units (One value) = value_units value
-  held_units (Many values) = values_units values
+  pub held_units : {U : Type 0} → (U → ℕ) → HeldWith U → ℕ
+  held_units size Nothing = 0
+  held_units size (One value) = value_units size value
+  held_units size (Many values) = values_units size values
 
-  pub values_units : ValueList → ℕ
-  values_units NoValues = 0
-  values_units (ValueAnd value values) = value_units value + values_units values
+  pub values_units : {U : Type 0} → (U → ℕ) → ValueListWith U → ℕ
+  values_units size NoValues = 0
+  values_units size (ValueAnd value values) = value_units size value + values_units size values
 
-  pub fields_units : HeldList → ℕ
-  fields_units NoFields = 0
-  fields_units (FieldAnd held rest) = held_units held + fields_units rest
+  pub fields_units : {U : Type 0} → (U → ℕ) → HeldListWith U → ℕ
+  fields_units size NoFields = 0
+  fields_units size (FieldAnd held rest) = held_units size held + fields_units size rest
 
-  pub units_of : Tree → ℕ
-  units_of (Message fields unknown) = 1 + length unknown + fields_units fields
+  pub tree_units : {U : Type 0} → (U → ℕ) → TreeWith U → ℕ
+  tree_units size (Message fields unknown) = 1 + size unknown + fields_units size fields
+
+abbrev pub units_of : Tree → ℕ
+units_of t = tree_units length t

@@ -1,6 +1,6 @@
 //! Laws of the definitions in `specs/`, each the contract of a function that does nothing.
-ghost use Rattle.std.specs.Prelude.{◌≡◌, ◌≢◌, ◌↔◌, ℕ, ◌+◌, ◌-◌, ◌*◌, ◌%◌, ◌^◌, ◌<◌, ◌≤◌, List, [], ◌++◌, length, take, IsSome, None, Some, Ok, Err, All, flat_map, map, sum, slice_index};
-ghost use Rattle.std.specs.List.{range_with_len};
+ghost use Rattle.std.specs.Prelude.{◌≡◌, ◌≢◌, ◌↔◌, ℕ, ◌+◌, ◌-◌, ◌*◌, ◌%◌, ◌^◌, ◌<◌, ◌≤◌, List, [], ◌∷◌, ◌++◌, length, take, IsSome, None, Some, Ok, Err, All, flat_map, map, sum, slice_index};
+ghost use Rattle.std.specs.List.{range_with_len, concat};
 ghost use Rattle.pb_schema.specs.declared.schema.Schema.{Schema};
 ghost use Rattle.pb_schema.specs.Builtin.{builtin};
 ghost use Rattle.pb_schema.specs.Varint.{Varint, varint_at, length_bytes, value_bytes, varint_of};
@@ -9,14 +9,18 @@ ghost use Rattle.pb_schema.specs.Form.{Form, read_tag, read_length};
 ghost use Rattle.pb_schema.specs.Walk.{record_left};
 ghost use Rattle.pb_schema.specs.Frames.{Frames, frames_of};
 ghost use Rattle.pb_schema.specs.Records.{AreRecords, IsRecord, Record, Records, RecordsWithin, record_of, records_of, records_within};
-ghost use Rattle.pb_schema.specs.Tree.{Tree};
-ghost use Rattle.pb_schema.specs.Fits.{Message, contents_of, fields_of};
+ghost use Rattle.pb_schema.specs.Tree.{Tree, Shape, tree_map};
+ghost use Rattle.pb_schema.specs.Depth.{depth_of};
+ghost use Rattle.pb_schema.specs.Units.{tree_units, units_of};
+ghost use Rattle.pb_schema.specs.ShapeOf.{shape_of};
+ghost use Rattle.pb_schema.specs.Broken.{broken_of};
+ghost use Rattle.pb_schema.specs.Fits.{Message, contents_of, fields_of, no_types};
 ghost use Rattle.pb_schema.specs.Fault.{fault_of, most_levels};
 ghost use Rattle.pb_schema.specs.TreeOf.{tree_of};
 ghost use Rattle.pb_schema.specs.Fitted.{Fitted};
 ghost use Rattle.pb_schema.specs.Lawful.{Lawful};
 ghost use Rattle.pb_schema.specs.Empty.{empty};
-ghost use Rattle.pb_schema.specs.Merge.{merge_of};
+ghost use Rattle.pb_schema.specs.Merge.{merge_of, shape_merge};
 ghost use Rattle.pb_schema.specs.Text.{framed, text_of};
 
 /// A varint has one to `most` bytes, each but the last at least 128 and the last below 128, and its value is the sum
@@ -54,8 +58,8 @@ pub fn one_list_of_records()
 pub fn one_record()
     ensures tag { (at : ℕ) (s : List ℕ) (number wire n : ℕ) → (read_tag at s ≡ Ok (number, wire, n)) ↔ ((n ≤ length s) × IsTag (take n s) number wire) }
     ensures prefix { (at : ℕ) (s : List ℕ) (len n : ℕ) → (read_length at s ≡ Ok (len, n)) ↔ ((n ≤ length s) × Varint (take n s) length_bytes len × (len < 2 ^ 31)) }
-    ensures found { (levels at : ℕ) (s : List ℕ) (form : Form) → record_left [] levels [] at s ≡ Ok form → IsRecord (AreRecords levels) (record_of form s) × (0 < form.size) × (form.size ≤ length s) }
-    ensures front { (levels at : ℕ) (s rest : List ℕ) (r : Record) → IsRecord (AreRecords levels) r → s ≡ r.span ++ rest → (form : Form) × (record_left [] levels [] at s ≡ Ok form) × (form.size ≡ length r.span) × (record_of form s ≡ r) }
+    ensures found { (levels at : ℕ) (s : List ℕ) (form : Form) → record_left no_types levels [] at s ≡ Ok form → IsRecord (AreRecords levels) (record_of form s) × (0 < form.size) × (form.size ≤ length s) }
+    ensures front { (levels at : ℕ) (s rest : List ℕ) (r : Record) → IsRecord (AreRecords levels) r → s ≡ r.span ++ rest → (form : Form) × (record_left no_types levels [] at s ≡ Ok form) × (form.size ≡ length r.span) × (record_of form s ≡ r) }
 {}
 
 /// At the root a payload has a tree exactly where it has no fault. At each depth a payload without a fault is cut into
@@ -65,7 +69,7 @@ pub fn one_record()
 pub fn a_tree_where_no_fault()
     ensures tree { (schema : Schema) (type_no : ℕ) (s : List ℕ) → IsSome (tree_of schema type_no s) ↔ (fault_of schema type_no 0 s ≡ None) }
     ensures records { (schema : Schema) (type_no depth : ℕ) (s : List ℕ) → fault_of schema type_no depth s ≡ None → (rs : List Record) × RecordsWithin (most_levels - depth) s rs }
-    ensures nested { (schema : Schema) (type_no depth : ℕ) (s : List ℕ) (rs : List Record) → fault_of schema type_no depth s ≡ None → RecordsWithin (most_levels - depth) s rs → All (λ r. (inner : ℕ) → contents_of (fields_of schema.types type_no) r.number r.wire ≡ Message inner → (depth < most_levels) × (fault_of schema inner (depth + 1) r.payload ≡ None)) rs }
+    ensures nested { (schema : Schema) (type_no depth : ℕ) (s : List ℕ) (rs : List Record) → fault_of schema type_no depth s ≡ None → RecordsWithin (most_levels - depth) s rs → All (λ r. (inner : ℕ) → contents_of schema (fields_of schema type_no) r ≡ Message inner → (depth < most_levels) × (fault_of schema inner (depth + 1) r.payload ≡ None)) rs }
     ensures together { (schema : Schema) (type_no depth : ℕ) (s t : List ℕ) → fault_of schema type_no depth s ≡ None → fault_of schema type_no depth t ≡ None → fault_of schema type_no depth (s ++ t) ≡ None }
 {}
 
@@ -74,6 +78,21 @@ pub fn a_tree_where_no_fault()
 /// field is whole records, and messages nest at most 100 levels deep.
 pub fn decoded_trees_are_fitted()
     ensures { (schema : Schema) (type_no : ℕ) (s : List ℕ) (t : Tree) → Lawful schema → tree_of schema type_no s ≡ Some t → Fitted schema type_no t }
+{}
+
+/// The shape of payloads, with the pieces of its unknown bytes joined at every level, is the tree of the payloads one
+/// behind the other, where none of them has a fault; so for one payload it is the tree of that.
+pub fn shapes_are_trees_in_pieces()
+    ensures all { (schema : Schema) (type_no : ℕ) (payloads : List (List ℕ)) → Lawful schema → All (λ s. broken_of schema type_no 0 s ≡ None) payloads → tree_of schema type_no (concat payloads) ≡ Some (tree_map concat (shape_of schema type_no payloads)) }
+    ensures one { (schema : Schema) (type_no : ℕ) (s : List ℕ) (t : Tree) → Lawful schema → tree_of schema type_no s ≡ Some t → tree_map concat (shape_of schema type_no (s ∷ [])) ≡ t }
+{}
+
+/// Changing what is unknown in a tree at every level keeps its depth, gives the units by the size of what comes in its
+/// place, and goes with merging where joining does.
+pub fn unknown_parts_are_changed_alone()
+    ensures depth { (f : List (List ℕ) → List ℕ) (t : Shape) → depth_of (tree_map f t) ≡ depth_of t }
+    ensures units { (f : List (List ℕ) → List ℕ) (t : Shape) → units_of (tree_map f t) ≡ tree_units (λ pieces. length (f pieces)) t }
+    ensures merged { (schema : Schema) (type_no : ℕ) (a b : Shape) → merge_of schema type_no (tree_map concat a) (tree_map concat b) ≡ tree_map concat (shape_merge schema type_no a b) }
 {}
 
 /// Merging the empty message of a type changes no message of that type, on either side.

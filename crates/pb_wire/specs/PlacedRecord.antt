@@ -3,6 +3,7 @@ use Rattle.std.specs.Prelude.{◌≡◌, ◌+◌, ◌-◌, ◌<◌, ◌≤◌, �
 use Rattle.pb_schema.specs.declared.wire_fault.WireFault.{WireFault}
 use Rattle.pb_schema.specs.Reads.{read_map}
 use Rattle.pb_schema.specs.Form.{Form}
+use Rattle.pb_schema.specs.Fits.{no_types}
 use Rattle.pb_schema.specs.Fault.{most_levels}
 use Rattle.pb_schema.specs.Walk.{record_left}
 use Rattle.pb_wire.specs.declared.wire_record.WireRecord.{WireRecord}
@@ -20,7 +21,7 @@ placed start form =
 
 -- the record at a place of some bytes, which stand at this depth, where no field is known; or its first fault
 abbrev pub record_in : ℕ → ℕ → List ℕ → Result WireRecord WireFault
-record_in depth start bytes = read_map (placed start) (record_left [] (most_levels - depth) [] start (drop start bytes))
+record_in depth start bytes = read_map (placed start) (record_left no_types (most_levels - depth) [] start (drop start bytes))
 
 -- the record starts here and has a byte at least; it ends within so many bytes, and its payload lies in it
 abbrev pub LiesFrom : ℕ → ℕ → WireRecord → Type 0

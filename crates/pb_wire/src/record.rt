@@ -2,7 +2,8 @@
 ghost use Rattle.std.specs.Prelude.{◌≡◌, ◌+◌, ◌-◌, ◌^◌, ◌<◌, ◌≤◌, ℕ, [], Some, length, drop, IfOk};
 ghost use Rattle.pb_schema.specs.Reads.{read_map};
 ghost use Rattle.pb_schema.specs.Form.{read_bytes, read_length as length_read, read_payload as payload_read, form_at};
-ghost use Rattle.pb_schema.specs.Walk.{walk_left};
+ghost use Rattle.pb_schema.specs.Fits.{no_types};
+ghost use Rattle.pb_schema.specs.Walk.{in_group, walk_left};
 ghost use Rattle.pb_wire.specs.Placed.{moved, moved_part};
 ghost use Rattle.pb_wire.specs.PlacedRecord.{placed, record_in, LiesFrom, FillsFrom};
 
@@ -115,7 +116,7 @@ fn read_form(bytes: &[u8], start: u32) -> Result<WireRecord, WireFault>
 fn read_group(bytes: &[u8], start: u32, number: u32, left: u32) -> Result<(u32, u32), WireFault>
     requires start { start ≤ length bytes.now }
     requires short { length bytes.now < 2 ^ 31 }
-    ensures exact { result ≡ walk_left [] left 0 [] (Some number) start (drop start bytes.now) }
+    ensures exact { result ≡ walk_left no_types left 0 (in_group [] number) start (drop start bytes.now) }
     ensures bound { IfOk result (λ stop. (start ≤ stop.0) × (stop.0 < stop.1) × (stop.1 ≤ length bytes.now)) }
 {
     let mut at = start;
