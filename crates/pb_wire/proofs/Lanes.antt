@@ -2,7 +2,7 @@
 use Rattle.std.proofs.Common.{◌≡◌, ◌+◌, ◌*◌, ◌%◌, ◌^◌, ◌<◌, ℕ, zero, suc, List, [], ◌∷◌, ◌++◌, length, map, replicate, bit_and, refl, sym, ap, ◌∙◌, arith}
 use Rattle.std.specs.Int.Digits.{AllBelowBase}
 use Rattle.std.specs.Simd.Lanes.{number_l}
-use Rattle.std.proofs.lemmas.Nat.{and_block}
+use Rattle.std.proofs.lemmas.Nat.{and_block, and_mask}
 use Rattle.pb_schema.specs.Varint.{seven_bits}
 
 -- what the bits of a mask keep goes by the lane
@@ -15,6 +15,13 @@ and_lanes bits mask kept small keeps (x ∷ s) h =
     let masks = number_l p (replicate (length s) mask) in
     (λ i. bit_and (turn x (number_l p s) i) (turn mask masks i)) ∙ and_block bits (number_l p s) masks x mask h.0 small
     ∙ sym (turn (bit_and x mask) (bit_and (number_l p s) masks)) ∙ (λ i. keeps x i + p * and_lanes bits mask kept small keeps s h.1 i)
+
+-- the low half of each lane, of sixteen bits and of 32
+pub low_sevens_are : (s : List ℕ) → AllBelowBase (2 ^ 16) s → bit_and (number_l (2 ^ 16) s) (number_l (2 ^ 16) (replicate (length s) 0x7f)) ≡ number_l (2 ^ 16) (map (λ x. x % 128) s)
+low_sevens_are s h = and_lanes 16 0x7f (λ x. x % 128) (omega arith) (λ x. and_mask x 7) s h
+
+pub low_fourteens_are : (s : List ℕ) → AllBelowBase (2 ^ 32) s → bit_and (number_l (2 ^ 32) s) (number_l (2 ^ 32) (replicate (length s) 0x3fff)) ≡ number_l (2 ^ 32) (map (λ x. x % 2 ^ 14) s)
+low_fourteens_are s h = and_lanes 32 0x3fff (λ x. x % 2 ^ 14) (omega arith) (λ x. and_mask x 14) s h
 
 -- bytes of 0 behind the others spell nothing
 pub zeros_behind : (s : List ℕ) (k : ℕ) → AllBelowBase 256 s → AllBelowBase 256 (s ++ replicate k 0) × (number_l 256 (s ++ replicate k 0) ≡ number_l 256 s) × (seven_bits (s ++ replicate k 0) ≡ seven_bits s)

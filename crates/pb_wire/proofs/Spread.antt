@@ -4,14 +4,14 @@ use Rattle.std.specs.Int.Digits.{AllBelowBase}
 use Rattle.std.specs.Simd.Lanes.{number_l}
 use Rattle.std.specs.Int.{to_le_bytes, from_le_bytes, w64}
 use Rattle.std.proofs.lemmas.Bool.{cases_lt}
-use Rattle.std.proofs.lemmas.Nat.{and_mask, div_below, le_bytes_8}
+use Rattle.std.proofs.lemmas.Nat.{div_below, le_bytes_8}
 use Rattle.std.proofs.lemmas.Nat.Bits.{and_high}
 use Rattle.pb_schema.specs.Varint.{groups, varint_of}
 use Rattle.pb_schema.proofs.Steps.{groups_more, groups_last, length-groups}
 use Rattle.pb_schema.proofs.VarintLaws.{groups_power}
 use Rattle.std.proofs.lemmas.List.{length-replicate, take-take}
 use Rattle.std.proofs.Math.Seq.{take-append-add, take-append_seam}
-use Rattle.pb_wire.proofs.Lanes.{and_lanes, zeros_behind}
+use Rattle.pb_wire.proofs.Lanes.{and_lanes, low_sevens_are, low_fourteens_are, zeros_behind}
 
 -- THE GROUPS OF A VALUE
 
@@ -109,14 +109,8 @@ low_fourteen a b h = omega (arith, h)
 high_fourteen : (a b : ℕ) → a < 2 ^ 14 → b < 2 ^ 14 → (a + 2 ^ 14 * b) / 2 ^ 14 % 2 ^ 14 * 2 ^ 14 ≡ 2 ^ 14 * b
 high_fourteen a b h k = omega (arith, h, k)
 
-low_sevens_are : (s : List ℕ) → AllBelowBase (2 ^ 16) s → bit_and (number_l (2 ^ 16) s) (number_l (2 ^ 16) (replicate (length s) 0x7f)) ≡ number_l (2 ^ 16) (map (λ x. x % 128) s)
-low_sevens_are s h = and_lanes 16 0x7f (λ x. x % 128) (omega arith) (λ x. and_mask x 7) s h
-
 high_sevens_are : (s : List ℕ) → AllBelowBase (2 ^ 16) s → bit_and (number_l (2 ^ 16) s) (number_l (2 ^ 16) (replicate (length s) 0x3f80)) ≡ number_l (2 ^ 16) (map (λ x. x / 128 % 128 * 128) s)
 high_sevens_are s h = and_lanes 16 0x3f80 (λ x. x / 128 % 128 * 128) (omega arith) (λ x. and_high x 7 7) s h
-
-low_fourteens_are : (s : List ℕ) → AllBelowBase (2 ^ 32) s → bit_and (number_l (2 ^ 32) s) (number_l (2 ^ 32) (replicate (length s) 0x3fff)) ≡ number_l (2 ^ 32) (map (λ x. x % 2 ^ 14) s)
-low_fourteens_are s h = and_lanes 32 0x3fff (λ x. x % 2 ^ 14) (omega arith) (λ x. and_mask x 14) s h
 
 high_fourteens_are : (s : List ℕ) → AllBelowBase (2 ^ 32) s → bit_and (number_l (2 ^ 32) s) (number_l (2 ^ 32) (replicate (length s) 0x0fff_c000)) ≡ number_l (2 ^ 32) (map (λ x. x / 2 ^ 14 % 2 ^ 14 * 2 ^ 14) s)
 high_fourteens_are s h = and_lanes 32 0x0fff_c000 (λ x. x / 2 ^ 14 % 2 ^ 14 * 2 ^ 14) (omega arith) (λ x. and_high x 14 14) s h

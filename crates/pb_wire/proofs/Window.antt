@@ -13,7 +13,7 @@ use Rattle.pb_schema.proofs.Steps.{varint_bytes_last, varint_bytes_more, seven_b
 use Rattle.pb_schema.proofs.VarintLaws.{varint_at_found, varint_at_exact}
 use Rattle.pb_wire.specs.Placed.{found_from}
 use Rattle.pb_wire.proofs.Reading.{moved_found}
-use Rattle.pb_wire.proofs.Lanes.{and_lanes, zeros_behind}
+use Rattle.pb_wire.proofs.Lanes.{and_lanes, low_sevens_are, low_fourteens_are, zeros_behind}
 
 -- THE BYTES OF A WINDOW
 
@@ -151,14 +151,8 @@ high_fourteen a b h k = omega (arith, h, k)
 sevens_are : (s : List ℕ) → AllBelowBase 256 s → bit_and (number_l 256 s) (number_l 256 (replicate (length s) 127)) ≡ number_l 256 (map (λ x. x % 128) s)
 sevens_are s h = and_lanes 8 127 (λ x. x % 128) (omega arith) (λ x. and_mask x 7) s h
 
-low_sevens_are : (s : List ℕ) → AllBelowBase (2 ^ 16) s → bit_and (number_l (2 ^ 16) s) (number_l (2 ^ 16) (replicate (length s) 0x7f)) ≡ number_l (2 ^ 16) (map (λ x. x % 128) s)
-low_sevens_are s h = and_lanes 16 0x7f (λ x. x % 128) (omega arith) (λ x. and_mask x 7) s h
-
 high_sevens_are : (s : List ℕ) → AllBelowBase (2 ^ 16) s → bit_and (number_l (2 ^ 16) s) (number_l (2 ^ 16) (replicate (length s) 0x7f00)) ≡ number_l (2 ^ 16) (map (λ x. x / 256 % 128 * 256) s)
 high_sevens_are s h = and_lanes 16 0x7f00 (λ x. x / 256 % 128 * 256) (omega arith) (λ x. and_high x 7 8) s h
-
-low_fourteens_are : (s : List ℕ) → AllBelowBase (2 ^ 32) s → bit_and (number_l (2 ^ 32) s) (number_l (2 ^ 32) (replicate (length s) 0x3fff)) ≡ number_l (2 ^ 32) (map (λ x. x % 2 ^ 14) s)
-low_fourteens_are s h = and_lanes 32 0x3fff (λ x. x % 2 ^ 14) (omega arith) (λ x. and_mask x 14) s h
 
 high_fourteens_are : (s : List ℕ) → AllBelowBase (2 ^ 32) s → bit_and (number_l (2 ^ 32) s) (number_l (2 ^ 32) (replicate (length s) 0x3fff_0000)) ≡ number_l (2 ^ 32) (map (λ x. x / 2 ^ 16 % 2 ^ 14 * 2 ^ 16) s)
 high_fourteens_are s h = and_lanes 32 0x3fff_0000 (λ x. x / 2 ^ 16 % 2 ^ 14 * 2 ^ 16) (omega arith) (λ x. and_high x 14 16) s h
