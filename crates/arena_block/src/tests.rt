@@ -41,6 +41,10 @@ fn parts_are_zeros_behind_the_header(rt: HostRuntime) -> Result<(), Fail> {
     assert_eq!(rt; block.place(144), 112);
     assert_eq!(rt; block.room(), 0);
     assert_eq!(rt; block.read(112, 144), [0; 144].as_slice());
+    block.copy(27, 28, 3);
+    assert_eq!(rt; block.read(24, 8), b"\0\0\0aabc\0".as_slice());
+    block.copy(27, 112, 4);
+    assert_eq!(rt; block.read(112, 6), b"aabc\0\0".as_slice());
     Ok(())
 }
 

@@ -10,7 +10,7 @@ use Rattle.std.proofs.lemmas.Map.Lookups.{exact_pairs, exact_unsigned}
 use Rattle.std.proofs.lemmas.Bool.{false≢true}
 use Rattle.arena_mem.specs.declared.place.Place.{Place}
 use Rattle.arena_mem.specs.declared.place.Buffer.{Buffer}
-use Rattle.arena_mem.specs.Places.{place_cmp, buffer_cmp, Places, Buffers, IsLive, used, splice, written, replaced}
+use Rattle.arena_mem.specs.Places.{place_cmp, buffer_cmp, Places, Buffers, IsLive, KeepsRest, used, splice, written, replaced}
 use Rattle.arena_mem.proofs.Entries.{AreDistinct, key_sum-new, key_sum-old, key_sum_all, no_entries}
 
 -- ---- the orders
@@ -37,6 +37,10 @@ from_IsSome P (Some x) h f = f x refl
 
 pub lives : (places : Places) (p : Place) (v : List ℕ) → fin.get places p ≡ Some v → IsLive places p
 lives places p v is = subst IsSome (sym is) refl
+
+-- what keeps its bytes is still live
+pub rest_lives : (old new : Places) → KeepsRest old new → (q : Place) → IsLive old q → IsLive new q
+rest_lives old new rest q live = from_IsSome (λ r. IsLive new q) (fin.get old q) live (λ v is. lives new q v (rest q v is))
 
 -- ---- how many, and how much
 pub len-inserted : (places : Places) (p : Place) (bytes : List ℕ) → fin.get places p ≡ None → fin.len (fin.insert places p bytes) ≡ fin.len places + 1

@@ -57,6 +57,7 @@ pub trait Memory {
         ensures rest { KeepsRest (places self.old) (places self.new) }
         ensures buffers { buffers self.new ≡ buffers self.old }
         ensures unchanged { OnErr result (places self.new ≡ places self.old) }
+        ensures still_live { (q : Place) → IsLive (places self.old) q → IsLive (places self.new) q }
         ensures grows { Grows key places buffers blocks 1 0 self.old self.new }
 
         // One more block at the most. `BlocksSpent` names a region that has all that a number can name.
@@ -78,6 +79,7 @@ pub trait Memory {
         ensures here { map.get (places self.new) place ≡ option_map (splice start bytes.now) (map.get (places self.old) place) }
         ensures others { (q : Place) → (q ≡ place → ⊥) → map.get (places self.new) q ≡ map.get (places self.old) q }
         ensures map { places self.new ≡ written (places self.old) place start bytes.now }
+        ensures still_live { (q : Place) → IsLive (places self.old) q → IsLive (places self.new) q }
         ensures count { map.len (places self.new) ≡ map.len (places self.old) }
         ensures space { used (places self.new) ≡ used (places self.old) }
         ensures buffers { buffers self.new ≡ buffers self.old }
@@ -93,6 +95,7 @@ pub trait Memory {
         ensures here { map.get (places self.new) to ≡ option_map (splice 0 (take bytes (bytes_at (places self.old) from))) (map.get (places self.old) to) }
         ensures others { (q : Place) → (q ≡ to → ⊥) → map.get (places self.new) q ≡ map.get (places self.old) q }
         ensures map { places self.new ≡ front_copied (places self.old) from to bytes }
+        ensures still_live { (q : Place) → IsLive (places self.old) q → IsLive (places self.new) q }
         ensures count { map.len (places self.new) ≡ map.len (places self.old) }
         ensures space { used (places self.new) ≡ used (places self.old) }
         ensures buffers { buffers self.new ≡ buffers self.old }

@@ -110,6 +110,7 @@ module _ (owner life region : ℕ) (policy : Policy) (blocks : List BlockState) 
     few = omega (arith, ok.few, count);
     policy = ok.valid;
     laid = inside_laid;
+    used = omega (arith, ok.used_few, ok.few, ok.used_is, used_back blocks spans);
     bytes = λ k d h. let there : k < length spans = omega (arith, h, length-map spans (placement_in blocks)) in subst (λ (x : Placement). length x.bytes ≡ x.len) (sym (placement_is blocks spans k d there)) (placement_full k there);
   }
 

@@ -1,5 +1,5 @@
 -- How blocks hold placements.
-use Rattle.std.specs.Prelude.{◌≡◌, ◌+◌, ◌*◌, ◌-◌, ◌<◌, ◌≤◌, ◌^◌, ℕ, Bool, List, [], ◌∷◌, ◌++◌, length, map, get_or, set, sum_by, nat_le, if◌then◌else◌}
+use Rattle.std.specs.Prelude.{◌≡◌, ◌+◌, ◌*◌, ◌-◌, ◌<◌, ◌≤◌, ◌^◌, ℕ, Bool, List, [], ◌∷◌, ◌++◌, length, map, get_or, set, sum_by, nat_le, if◌then◌else◌, Result, Err, IfOk, IfErr, OnOk, OnErr}
 use Rattle.std.specs.List.{sum}
 use Rattle.arena_mem.specs.declared.memory.MemFault.{MemFault}
 use Rattle.arena_mem.specs.declared.memory.MemFault.TheVariants.{NoMemory, BlocksSpent}
@@ -80,3 +80,12 @@ pub record HoldsAll (policy : Policy) (blocks : List BlockState) (spans : List S
   pub used_few : used + room_of (newest blocks) ≤ 2 ^ 31 * length blocks
   pub allocated_is : allocated ≡ sum (sizes_of blocks)
   pub allocated_few : allocated ≤ 2 ^ 32 * length blocks
+
+-- a try to make room for a rounded length: the blocks and the size of a new one, or 0; or why there is no room
+pub record MakesRoom (policy : Policy) (region len : ℕ) (old new : List BlockState) (result : Result ℕ MemFault) : Type 0 where
+  pub blocks : OnOk result (new ≡ blocks_for policy old len)
+  pub size : IfOk result (λ size. size ≡ size_for policy old len)
+  pub unchanged : OnErr result (new ≡ old)
+  pub refusal : IfErr result (Refused old len region)
+  -- not for want of memory where the blocks are spent
+  pub full : AreSpent old len → result ≡ Err (BlocksSpent region)

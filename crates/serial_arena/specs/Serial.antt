@@ -124,9 +124,11 @@ abbrev pub Refuses : SerialState → ℕ → MemFault → Type 0
 Refuses s bytes NoMemory = IsSpent s bytes → ⊥
 Refuses s bytes (BlocksSpent region) = (region ≡ s.region) × IsSpent s bytes
 
--- what every arena is: its placements are laid in its blocks by its policy, and a number names each block
+-- what every arena is: its placements are laid in its blocks by its policy, and a number names each block; what is used
+-- stays within 63 bits
 pub record IsSerial (s : SerialState) : Type 0 where
   pub few : length s.sizes < 2 ^ 32
   pub policy : IsValid s.policy
   pub laid : Laid s.policy s.sizes (spans_of s)
   pub bytes : (k : ℕ) (d : Placement) → k < length s.placements → length (get_or s.placements k d).bytes ≡ (get_or s.placements k d).len
+  pub used : used_of s < 2 ^ 63

@@ -10,6 +10,7 @@ use crate::span::Span;
 use arena_block::{Block, Policy};
 use arena_mem::Part;
 use cleanup_list::{CleanupList, CleanupWatch};
+use ghost_list::GhostList;
 use std::alloc::Global;
 use std::marker::Model;
 
@@ -33,7 +34,8 @@ pub struct SerialRecord {
 /// An arena of one owner: blocks by a policy, each filled from its header on, and byte strings that it keeps with a
 /// cleanup each. Nothing of it is given up before it ends or is dropped; a drop runs no cleanup.
 ///
-/// The list of placements is read by no call. It is there because what the arena means is a function of what it holds.
+/// The list of placements is read by clauses alone and has no bytes. It is there because what the arena means is a
+/// function of what it holds.
 #[derive(Drop)]
 pub struct SerialArena {
     pub(crate) owner: u32,
@@ -41,7 +43,7 @@ pub struct SerialArena {
     pub(crate) region: u32,
     pub(crate) policy: Policy,
     pub(crate) blocks: Vec<Block>,
-    pub(crate) spans: Vec<Span>,
+    pub(crate) spans: GhostList<Span>,
     // The lengths of the placements together, and the sizes of the blocks.
     pub(crate) used: u64,
     pub(crate) allocated: u64,
@@ -72,7 +74,7 @@ impl SerialArena {
             region,
             policy,
             blocks: Vec::new(alloc),
-            spans: Vec::new(alloc),
+            spans: GhostList::new(),
             used: 0,
             allocated: 0,
             kept: CleanupList::new(alloc),

@@ -1,17 +1,14 @@
-// Blocks in a row, of which the newest one is filled, and the list of what was placed in them.
-ghost use Rattle.std.specs.Prelude.{◌≡◌, ◌+◌, ◌-◌, ◌<◌, ◌≤◌, ◌^◌, length, Err, IfOk, IfErr, OnOk, OnErr, vec_len, vec_capacity};
+// Blocks in a row, of which the newest one is filled.
+ghost use Rattle.std.specs.Prelude.{◌≡◌, ◌+◌, ◌-◌, ◌<◌, ◌≤◌, ◌^◌, length};
 ghost use Rattle.std.specs.Option.{ForSome};
-ghost use Rattle.arena_mem.specs.declared.memory.MemFault.TheVariants.{BlocksSpent};
 ghost use Rattle.arena_mem.specs.Places.{round8, IsPlaceable};
 ghost use Rattle.arena_block.specs.Policy.{IsValid, IsLength};
 ghost use Rattle.arena_block.specs.Block.{room_of, part_of, IsPart};
 ghost use Rattle.serial_arena.specs.Laid.{size_before};
-ghost use Rattle.serial_arena.specs.Layout.{sizes_of, block_at, newest, blocks_for, size_for, with_filled, with_written, AreSpent, Refused};
+ghost use Rattle.serial_arena.specs.Layout.{sizes_of, block_at, newest, with_filled, with_written, MakesRoom};
 
-use crate::span::Span;
 use arena_block::{Block, Policy};
-use arena_mem::{MemFault, NoMemory};
-use std::alloc::Global;
+use arena_mem::MemFault;
 
 // The least multiple of 8 that is at least `bytes`.
 #[inline]
@@ -45,34 +42,11 @@ fn last_size(blocks: &[Block]) -> Option<u32>
     }
 }
 
-// How long the list of placements is when an arena is no longer small, and how much is then asked for at once, where it
-// can be had: 16 MiB of address space. A page of it is taken when it is first written, and a system that has huge pages
-// can use them.
-const LONG_LIST: usize = 4096;
-
-const STEP: usize = 16777216 / 12;
-
-// Makes room for one more entry in the list of placements. A short list doubles.
-fn make_entry(spans: &mut Vec<Span>) -> Result<(), NoMemory>
-    ensures items { spans.new.items ≡ spans.old.items }
-    ensures room { OnOk result (vec_len spans.new < vec_capacity spans.new) }
-{
-    if spans.len() < spans.capacity() {
-        return Ok(());
-    }
-    if spans.len() >= LONG_LIST && spans.reserve(STEP).is_ok() {
-        return Ok(());
-    }
-    spans.reserve(1)?;
-    Ok(())
-}
-
-// Makes room for a placement of `len` bytes: in its list first, and in a new block where the newest one has too little.
-// It answers the size of the new block, or 0.
+// Makes room for a placement of `len` bytes: a new block where the newest one has too little. It answers the size of the
+// new block, or 0.
 #[inline]
 pub(crate) fn make_room(
     blocks: &mut Vec<Block>,
-    spans: &mut Vec<Span>,
     policy: &Policy,
     region: u32,
     len: u32,
@@ -80,26 +54,19 @@ pub(crate) fn make_room(
     requires valid { IsValid policy.now }
     requires length { IsLength len }
     requires few { length blocks.old.items < 2 ^ 32 }
-    ensures blocks { OnOk result (blocks.new.items ≡ blocks_for policy.now blocks.old.items len) }
-    ensures size { IfOk result (λ size. size ≡ size_for policy.now blocks.old.items len) }
-    ensures spans { spans.new.items ≡ spans.old.items }
-    ensures listed { OnOk result (vec_len spans.new < vec_capacity spans.new) }
-    ensures unchanged { OnErr result (blocks.new.items ≡ blocks.old.items) }
-    ensures refusal { IfErr result (Refused blocks.old.items len region) }
-    ensures full { AreSpent blocks.old.items len → result ≡ Err (BlocksSpent region) }
+    ensures { MakesRoom policy.now region len blocks.old.items blocks.new.items result }
 {
-    if len <= room(blocks) && spans.len() < spans.capacity() {
+    if len <= room(blocks) {
         return Ok(0);
     }
-    take_room(blocks, spans, policy, region, len)
+    open_block(blocks, policy, region, len)
 }
 
-// Makes that room where there isn't all of it yet. It is apart so that the common case is a few instructions.
+// Opens the next block. It is apart so that the common case is a few instructions.
 #[cold]
 #[inline(never)]
-fn take_room(
+fn open_block(
     blocks: &mut Vec<Block>,
-    spans: &mut Vec<Span>,
     policy: &Policy,
     region: u32,
     len: u32,
@@ -107,23 +74,11 @@ fn take_room(
     requires valid { IsValid policy.now }
     requires length { IsLength len }
     requires few { length blocks.old.items < 2 ^ 32 }
-    ensures blocks { OnOk result (blocks.new.items ≡ blocks_for policy.now blocks.old.items len) }
-    ensures size { IfOk result (λ size. size ≡ size_for policy.now blocks.old.items len) }
-    ensures spans { spans.new.items ≡ spans.old.items }
-    ensures listed { OnOk result (vec_len spans.new < vec_capacity spans.new) }
-    ensures unchanged { OnErr result (blocks.new.items ≡ blocks.old.items) }
-    ensures refusal { IfErr result (Refused blocks.old.items len region) }
-    ensures full { AreSpent blocks.old.items len → result ≡ Err (BlocksSpent region) }
+    requires needed { room_of (newest blocks.old.items) < len }
+    ensures { MakesRoom policy.now region len blocks.old.items blocks.new.items result }
 {
-    let fits = len <= room(blocks);
-    if !fits && blocks.len() >= u32::MAX as usize {
+    if blocks.len() >= u32::MAX as usize {
         return Err(MemFault::BlocksSpent { region });
-    }
-    if make_entry(spans).is_err() {
-        return Err(MemFault::NoMemory);
-    }
-    if fits {
-        return Ok(0);
     }
     let size = policy.next_size(last_size(blocks), len);
     let alloc = *blocks.allocator();

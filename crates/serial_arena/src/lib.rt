@@ -15,4 +15,4 @@ mod span;
 mod tests;
 
 pub use arena::{SerialArena, SerialKey, SerialRecord};
-pub use laws::{blocks_hold_places, laid_spans_lie_apart, places_lie_apart};
+pub use laws::{arena_is_laid, blocks_hold_places, laid_spans_lie_apart, places_lie_apart};

@@ -40,6 +40,7 @@ impl Memory for SerialArena {
         ensures rest { KeepsRest (places_of self.old) (places_of self.new) }
         ensures buffers { buffers_of self.new ≡ buffers_of self.old }
         ensures unchanged { OnErr result (places_of self.new ≡ places_of self.old) }
+        ensures still_live { (q : Place) → IsLive (places_of self.old) q → IsLive (places_of self.new) q }
         ensures grows { Grows key_of places_of buffers_of blocks_of 1 0 self.old self.new }
         ensures blocks { AddsAtMostABlock (blocks_of self.old) (blocks_of self.new) }
         ensures blocks_unchanged { OnErr result ((region : ℕ) → blocks_of self.new region ≡ blocks_of self.old region) }
@@ -55,21 +56,12 @@ impl Memory for SerialArena {
         ensures full { IsSpent self.old bytes → result ≡ Err (BlocksSpent self.old.region) }
     {
         let len = rounded(bytes);
-        let added = match make_room(
-            &mut self.blocks,
-            &mut self.spans,
-            &self.policy,
-            self.region,
-            len,
-        ) {
-            Ok(added) => added,
-            Err(fault) => return Err(fault),
-        };
+        let added = make_room(&mut self.blocks, &self.policy, self.region, len)?;
         self.used += len as u64;
         add_size(&mut self.allocated, added);
         let block = (self.blocks.len() - 1) as u32;
         let offset = fill_newest(&mut self.blocks, bytes);
-        self.spans.push_reserved(Span { block, offset, len });
+        self.spans = self.spans.with(&Span { block, offset, len });
         Ok(Place {
             region: self.region,
             block,
@@ -89,13 +81,13 @@ impl Memory for SerialArena {
         ensures here { map.get (places_of self.new) place ≡ option_map (splice start bytes.now) (map.get (places_of self.old) place) }
         ensures others { (q : Place) → (q ≡ place → ⊥) → map.get (places_of self.new) q ≡ map.get (places_of self.old) q }
         ensures map { places_of self.new ≡ written (places_of self.old) place start bytes.now }
+        ensures still_live { (q : Place) → IsLive (places_of self.old) q → IsLive (places_of self.new) q }
         ensures count { map.len (places_of self.new) ≡ map.len (places_of self.old) }
         ensures space { used (places_of self.new) ≡ used (places_of self.old) }
         ensures buffers { buffers_of self.new ≡ buffers_of self.old }
         ensures blocks { (region : ℕ) → blocks_of self.new region ≡ blocks_of self.old region }
 
-        // What was live still is, and nothing changes but the bytes of that placement.
-        ensures still_live { (q : Place) → IsLive (places_of self.old) q → IsLive (places_of self.new) q }
+        // Nothing changes but the bytes of that placement.
         ensures wrote { self.new ≡ with_bytes self.old place start bytes.now }
     {
         write_part(&mut self.blocks, place.block, place.offset + start, bytes);
@@ -110,13 +102,13 @@ impl Memory for SerialArena {
         ensures here { map.get (places_of self.new) to ≡ option_map (splice 0 (take bytes (bytes_at (places_of self.old) from))) (map.get (places_of self.old) to) }
         ensures others { (q : Place) → (q ≡ to → ⊥) → map.get (places_of self.new) q ≡ map.get (places_of self.old) q }
         ensures map { places_of self.new ≡ front_copied (places_of self.old) from to bytes }
+        ensures still_live { (q : Place) → IsLive (places_of self.old) q → IsLive (places_of self.new) q }
         ensures count { map.len (places_of self.new) ≡ map.len (places_of self.old) }
         ensures space { used (places_of self.new) ≡ used (places_of self.old) }
         ensures buffers { buffers_of self.new ≡ buffers_of self.old }
         ensures blocks { (region : ℕ) → blocks_of self.new region ≡ blocks_of self.old region }
 
         // Nothing changes but the front of that placement.
-        ensures still_live { (q : Place) → IsLive (places_of self.old) q → IsLive (places_of self.new) q }
         ensures wrote { self.new ≡ with_bytes self.old to 0 (take bytes (bytes_at (places_of self.old) from)) }
     {
         copy_part(

@@ -96,12 +96,40 @@ fn a_write_changes_one_place(rt: HostRuntime) -> Result<(), Fail> {
     Ok(())
 }
 
+// Places a part of three blocks' sizes each, and copies fronts between them, in both orders of the blocks.
+#[test]
+fn fronts_are_copied_within_a_block_and_between_blocks(rt: HostRuntime) -> Result<(), Fail> {
+    let mut arena = SerialArena::new(rt.alloc(), Policy::profile(), 0, 0, 0);
+    let first = arena.place(240)?;
+    let second = arena.place(8)?;
+    let third = arena.place(16)?;
+    assert_eq!(rt; (first.block, second.block, third.block), (0, 1, 1));
+    arena.write(first, 0, b"abcdefgh");
+    arena.copy_front(first, third, 5);
+    assert_eq!(rt;
+        arena.read(third),
+        b"abcde\0\0\0\0\0\0\0\0\0\0\0".as_slice()
+    );
+    arena.copy_front(third, second, 8);
+    assert_eq!(rt; arena.read(second), b"abcde\0\0\0".as_slice());
+    arena.write(second, 0, b"ijklmnop");
+    arena.copy_front(second, first, 2);
+    assert_eq!(rt; &arena.read(first)[..8], b"ijcdefgh".as_slice());
+    arena.copy_front(second, second, 8);
+    assert_eq!(rt; arena.read(second), b"ijklmnop".as_slice());
+    Ok(())
+}
+
 #[test]
 fn kept_byte_strings_are_told_at_the_end(rt: HostRuntime) -> Result<(), Fail> {
     let mut arena = SerialArena::new(rt.alloc(), Policy::profile(), 0, 5, 3);
-    for (number, text) in [(0, "a long text"), (1, ""), (2, "another")] {
-        let bytes = text.as_bytes().to_vec(rt.alloc())?;
-        let buffer = arena.keep(bytes).map_err(|refused| refused.0)?;
+    for (number, text) in [(0, "a long text"), (1, "another"), (2, "")] {
+        let buffer = if number == 1 {
+            arena.keep_copy(text.as_bytes())?
+        } else {
+            let bytes = text.as_bytes().to_vec(rt.alloc())?;
+            arena.keep(bytes).map_err(|refused| refused.0)?
+        };
         assert_eq!(rt; buffer, Buffer { region: 3, number });
         assert_eq!(rt; arena.kept(buffer), text.as_bytes());
         assert_eq!(rt; arena.registered(), number + 1);
