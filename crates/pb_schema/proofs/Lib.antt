@@ -13,6 +13,8 @@ pub mod OneRecord
 pub mod MergeLaws
 pub mod MapLaws
 pub mod FaultLaws
+pub mod HeldLaws
+pub mod PayloadLaws
 pub mod SoundRecords
 pub mod Gathering
 pub mod FittedLaws

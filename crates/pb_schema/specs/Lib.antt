@@ -19,6 +19,8 @@ pub mod Text
 pub mod Depth
 pub mod Units
 pub mod Merge
+pub mod HeldAt
+pub mod Payloads
 pub mod Fitted
 pub mod Lawful
 pub mod Builtin
