@@ -15,6 +15,7 @@ pub mod MapLaws
 pub mod FaultLaws
 pub mod HeldLaws
 pub mod PayloadLaws
+pub mod MeterLaws
 pub mod SoundRecords
 pub mod Gathering
 pub mod FittedLaws
@@ -24,6 +25,7 @@ mod Examples
 mod TreeExamples
 mod KindExamples
 mod ShapeExamples
+mod CostExamples
 mod FittedExamples
 mod LawfulExamples
 pub mod TickText

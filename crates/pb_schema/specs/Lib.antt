@@ -21,6 +21,9 @@ pub mod Units
 pub mod Merge
 pub mod HeldAt
 pub mod Payloads
+pub mod Meter
+pub mod ParseCost
+pub mod MergeCost
 pub mod Fitted
 pub mod Lawful
 pub mod Builtin
