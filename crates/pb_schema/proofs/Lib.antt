@@ -20,6 +20,7 @@ pub mod SoundRecords
 pub mod Gathering
 pub mod FittedLaws
 pub mod ShapeLaws
+pub mod CostLaws
 mod Rows
 mod Examples
 mod TreeExamples

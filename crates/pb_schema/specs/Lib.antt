@@ -24,6 +24,7 @@ pub mod Payloads
 pub mod Meter
 pub mod ParseCost
 pub mod MergeCost
+pub mod MoreCost
 pub mod Fitted
 pub mod Lawful
 pub mod Builtin

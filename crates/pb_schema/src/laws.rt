@@ -12,6 +12,9 @@ ghost use Rattle.pb_schema.specs.Records.{AreRecords, IsRecord, Record, Records,
 ghost use Rattle.pb_schema.specs.Tree.{Held, Nothing, Tree, Shape, fields_held, fields_in_list, tree_map};
 ghost use Rattle.pb_schema.specs.HeldAt.{clears, field_at, held_at, with_held};
 ghost use Rattle.pb_schema.specs.Payloads.{bad_payload, trees_of};
+ghost use Rattle.pb_schema.specs.Meter.{Meter, GrowsInParts, placed_bytes, cleanups};
+ghost use Rattle.pb_schema.specs.ParseCost.{parse_cost};
+ghost use Rattle.pb_schema.specs.MoreCost.{more_cost};
 ghost use Rattle.pb_schema.specs.declared.kind.FieldType.{FieldType};
 ghost use Rattle.pb_schema.specs.declared.wire_fault.WireFault.{WireFault};
 ghost use Rattle.pb_schema.specs.Depth.{depth_of, held_levels};
@@ -114,6 +117,16 @@ pub fn what_is_put_is_held()
     ensures elsewhere { (schema : Schema) (type_no number other : ℕ) (field second : FieldType) (held : Held) (t : Tree) → number ≢ other → field_at schema type_no number ≡ Some field → field_at schema type_no other ≡ Some second → held_at schema type_no other (with_held schema type_no number held t) ≡ (if clears field.card held second.card then Nothing else held_at schema type_no other t) }
     ensures entries { (schema : Schema) (type_no number : ℕ) (held : Held) (t : Tree) → length (fields_in_list (fields_held (with_held schema type_no number held t))) ≡ length (fields_in_list (fields_held t)) }
     ensures depth { (schema : Schema) (type_no number : ℕ) (held : Held) (t : Tree) → (held_levels (held_at schema type_no number t) ≤ depth_of t) × (depth_of (with_held schema type_no number held t) ≤ max (held_levels held) (depth_of t)) }
+{}
+
+/// Payloads that are read one after another count by a meter what the earlier ones do, and what the shape of these and
+/// the later ones say; no payloads count a record alone. Of the meter it takes that an array counts the same in one go
+/// and in parts, and so do the meters of placed bytes and of cleanups.
+pub fn later_payloads_count_more()
+    ensures later { (meter : Meter) (schema : Schema) (type_no : ℕ) (earlier later : List (List ℕ)) → GrowsInParts meter → parse_cost meter schema type_no (earlier ++ later) ≡ parse_cost meter schema type_no earlier + more_cost meter schema type_no (shape_of schema type_no earlier) later }
+    ensures none { (meter : Meter) (schema : Schema) (type_no : ℕ) → GrowsInParts meter → parse_cost meter schema type_no [] ≡ meter.size type_no }
+    ensures placed { (sizes : ℕ → ℕ) → GrowsInParts (placed_bytes sizes) }
+    ensures cleanups { GrowsInParts cleanups }
 {}
 
 /// Merging the empty message of a type changes no message of that type, on either side.
