@@ -13,15 +13,20 @@ pub mod OneRecord
 pub mod MergeLaws
 pub mod MapLaws
 pub mod FaultLaws
+pub mod HeldLaws
+pub mod PayloadLaws
+pub mod MeterLaws
 pub mod SoundRecords
 pub mod Gathering
 pub mod FittedLaws
 pub mod ShapeLaws
+pub mod CostLaws
 mod Rows
 mod Examples
 mod TreeExamples
 mod KindExamples
 mod ShapeExamples
+mod CostExamples
 mod FittedExamples
 mod LawfulExamples
 pub mod TickText

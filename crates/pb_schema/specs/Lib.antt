@@ -19,6 +19,12 @@ pub mod Text
 pub mod Depth
 pub mod Units
 pub mod Merge
+pub mod HeldAt
+pub mod Payloads
+pub mod Meter
+pub mod ParseCost
+pub mod MergeCost
+pub mod MoreCost
 pub mod Fitted
 pub mod Lawful
 pub mod Builtin

@@ -1,5 +1,5 @@
 //! Laws of the definitions in `specs/`, each the contract of a function that does nothing.
-ghost use Rattle.std.specs.Prelude.{◌≡◌, ◌≢◌, ◌↔◌, ℕ, ◌+◌, ◌-◌, ◌*◌, ◌%◌, ◌^◌, ◌<◌, ◌≤◌, List, [], ◌∷◌, ◌++◌, length, take, IsSome, None, Some, Ok, Err, All, flat_map, map, sum, slice_index};
+ghost use Rattle.std.specs.Prelude.{◌≡◌, ◌≢◌, ◌↔◌, if◌then◌else◌, max, slice_get, ℕ, ◌+◌, ◌-◌, ◌*◌, ◌%◌, ◌^◌, ◌<◌, ◌≤◌, List, [], ◌∷◌, ◌++◌, length, take, IsSome, None, Some, Ok, Err, All, flat_map, map, sum, slice_index};
 ghost use Rattle.std.specs.List.{range_with_len, concat};
 ghost use Rattle.pb_schema.specs.declared.schema.Schema.{Schema};
 ghost use Rattle.pb_schema.specs.Builtin.{builtin};
@@ -9,8 +9,15 @@ ghost use Rattle.pb_schema.specs.Form.{Form, read_tag, read_length};
 ghost use Rattle.pb_schema.specs.Walk.{record_left};
 ghost use Rattle.pb_schema.specs.Frames.{Frames, frames_of};
 ghost use Rattle.pb_schema.specs.Records.{AreRecords, IsRecord, Record, Records, RecordsWithin, record_of, records_of, records_within};
-ghost use Rattle.pb_schema.specs.Tree.{Tree, Shape, tree_map};
-ghost use Rattle.pb_schema.specs.Depth.{depth_of};
+ghost use Rattle.pb_schema.specs.Tree.{Held, Nothing, Tree, Shape, fields_held, fields_in_list, tree_map};
+ghost use Rattle.pb_schema.specs.HeldAt.{clears, field_at, held_at, with_held};
+ghost use Rattle.pb_schema.specs.Payloads.{bad_payload, trees_of};
+ghost use Rattle.pb_schema.specs.Meter.{Meter, GrowsInParts, placed_bytes, cleanups};
+ghost use Rattle.pb_schema.specs.ParseCost.{parse_cost};
+ghost use Rattle.pb_schema.specs.MoreCost.{more_cost};
+ghost use Rattle.pb_schema.specs.declared.kind.FieldType.{FieldType};
+ghost use Rattle.pb_schema.specs.declared.wire_fault.WireFault.{WireFault};
+ghost use Rattle.pb_schema.specs.Depth.{depth_of, held_levels};
 ghost use Rattle.pb_schema.specs.Units.{tree_units, units_of};
 ghost use Rattle.pb_schema.specs.ShapeOf.{shape_of};
 ghost use Rattle.pb_schema.specs.Broken.{broken_of};
@@ -93,6 +100,33 @@ pub fn unknown_parts_are_changed_alone()
     ensures depth { (f : List (List ℕ) → List ℕ) (t : Shape) → depth_of (tree_map f t) ≡ depth_of t }
     ensures units { (f : List (List ℕ) → List ℕ) (t : Shape) → units_of (tree_map f t) ≡ tree_units (λ pieces. length (f pieces)) t }
     ensures merged { (schema : Schema) (type_no : ℕ) (a b : Shape) → merge_of schema type_no (tree_map concat a) (tree_map concat b) ≡ tree_map concat (shape_merge schema type_no a b) }
+{}
+
+/// Of payloads that are read at one type all have trees exactly where none has a fault, and that is exactly where none
+/// is bad; a bad one is told exactly where it has that fault and none before it has one.
+pub fn trees_where_none_is_bad()
+    ensures trees { (schema : Schema) (type_no : ℕ) (payloads : List (List ℕ)) → IsSome (trees_of schema type_no payloads) ↔ All (λ s. fault_of schema type_no 0 s ≡ None) payloads }
+    ensures none { (schema : Schema) (type_no : ℕ) (payloads : List (List ℕ)) → (bad_payload schema type_no payloads ≡ None) ↔ All (λ s. fault_of schema type_no 0 s ≡ None) payloads }
+    ensures first { (schema : Schema) (type_no : ℕ) (payloads : List (List ℕ)) (place : ℕ) (fault : WireFault) → (bad_payload schema type_no payloads ≡ Some (place, fault)) ↔ ((payload : List ℕ) × (slice_get payloads place ≡ Some payload) × (fault_of schema type_no 0 payload ≡ Some fault) × All (λ s. fault_of schema type_no 0 s ≡ None) (take place payloads)) }
+{}
+
+/// A message of a type, with one entry for each of its fields, holds at a field what was put there; at any other field
+/// it holds what it held, or nothing where the other field is a member of the same oneof and a value was put.
+pub fn what_is_put_is_held()
+    ensures here { (schema : Schema) (type_no number : ℕ) (field : FieldType) (held : Held) (t : Tree) → field_at schema type_no number ≡ Some field → length (fields_in_list (fields_held t)) ≡ length (fields_of schema type_no) → held_at schema type_no number (with_held schema type_no number held t) ≡ held }
+    ensures elsewhere { (schema : Schema) (type_no number other : ℕ) (field second : FieldType) (held : Held) (t : Tree) → number ≢ other → field_at schema type_no number ≡ Some field → field_at schema type_no other ≡ Some second → held_at schema type_no other (with_held schema type_no number held t) ≡ (if clears field.card held second.card then Nothing else held_at schema type_no other t) }
+    ensures entries { (schema : Schema) (type_no number : ℕ) (held : Held) (t : Tree) → length (fields_in_list (fields_held (with_held schema type_no number held t))) ≡ length (fields_in_list (fields_held t)) }
+    ensures depth { (schema : Schema) (type_no number : ℕ) (held : Held) (t : Tree) → (held_levels (held_at schema type_no number t) ≤ depth_of t) × (depth_of (with_held schema type_no number held t) ≤ max (held_levels held) (depth_of t)) }
+{}
+
+/// Payloads that are read one after another count by a meter what the earlier ones do, and what the shape of these and
+/// the later ones say; no payloads count a record alone. Of the meter it takes that an array counts the same in one go
+/// and in parts, and so do the meters of placed bytes and of cleanups.
+pub fn later_payloads_count_more()
+    ensures later { (meter : Meter) (schema : Schema) (type_no : ℕ) (earlier later : List (List ℕ)) → GrowsInParts meter → parse_cost meter schema type_no (earlier ++ later) ≡ parse_cost meter schema type_no earlier + more_cost meter schema type_no (shape_of schema type_no earlier) later }
+    ensures none { (meter : Meter) (schema : Schema) (type_no : ℕ) → GrowsInParts meter → parse_cost meter schema type_no [] ≡ meter.size type_no }
+    ensures placed { (sizes : ℕ → ℕ) → GrowsInParts (placed_bytes sizes) }
+    ensures cleanups { GrowsInParts cleanups }
 {}
 
 /// Merging the empty message of a type changes no message of that type, on either side.
