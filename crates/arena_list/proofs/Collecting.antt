@@ -10,7 +10,8 @@ use Rattle.arena_list.specs.declared.entry.Entry.{Entry}
 use Rattle.arena_list.specs.declared.view.Node.{Node}
 use Rattle.arena_list.specs.Nodes.{before, head_of, node_word}
 use Rattle.arena_list.specs.Founded.{Differ, slot, node_of}
-use Rattle.arena_list.specs.Closed.{entry, IsAmong}
+use Rattle.arena_list.specs.Closed.{entry}
+use Rattle.arena_list.specs.Seats.{IsAmong}
 use Rattle.arena_list.specs.Collected.{place_of, AreIn, AreStored, Fills, Empties}
 use Rattle.arena_list.proofs.Lists.{at_below, at_there, at_more, at_end}
 use Rattle.arena_list.proofs.Links.{before_at, before_small}

@@ -22,7 +22,7 @@ use Rattle.arena_list.specs.declared.view.Hold.TheVariants.{Filling, Away, Rests
 use Rattle.arena_list.specs.declared.view.Hand.{Hand}
 use Rattle.arena_list.specs.declared.view.View.{View}
 use Rattle.arena_list.specs.Nodes.{node, before, head_of, Begins, HasNode, LacksNode}
-use Rattle.arena_list.specs.Views.{hand, first_hand, mine, when, HasSeenOwn}
+use Rattle.arena_list.specs.Views.{hand, first_hand, mine, spare, when, unless, HasSeenOwn}
 use Rattle.arena_list.specs.Founded.{Meter}
 use Rattle.arena_list.specs.Steps.{Sat, Sees, IsSeated, looked, counted, joined, held, settled, noted, next_link, own_node, used_now, saw_head, tried_link}
 use Rattle.arena_list.proofs.Links.{before_small, head_more, has_node}
@@ -43,6 +43,18 @@ module _ {V : Type 0} where
     told : (b : Bool) (t : ℕ) → when b t ≡ None → b ≡ false
     told true t e = absurd (none-some t (sym e))
     told false t e = refl
+
+  pub mine_is : (v : View V) (s : ℕ) → (hand v).linked ≡ true → s ≡ (hand v).slot → mine v ≡ Some s
+  mine_is v s is at = ap (λ (b : Bool). when b (hand v).slot) is ∙ ap Some (sym at)
+
+  pub spare_tells : (v : View V) (s : ℕ) → spare v ≡ Some s → ((hand v).linked ≡ false) × ((hand v).slot ≡ s)
+  spare_tells v s e = told (hand v).linked (hand v).slot s e where
+    told : (b : Bool) (t s : ℕ) → unless b t ≡ Some s → (b ≡ false) × (t ≡ s)
+    told false t s e = (refl, cc)
+    told true t s e = absurd (none-some s e)
+
+  pub spare_is : (v : View V) (s : ℕ) → (hand v).linked ≡ false → s ≡ (hand v).slot → spare v ≡ Some s
+  spare_is v s is at = ap (λ (b : Bool). unless b (hand v).slot) is ∙ ap Some (sym at)
 
   first_of : Option V → List (ℕ × Option V) → Option V
   first_of d [] = d

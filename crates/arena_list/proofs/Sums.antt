@@ -174,6 +174,7 @@ module _ {V : Type 0} (m : Meter V) (v : View V) (sees : Sees (hand v) v.seen) w
         earlier = (let a = sum_begins old.sizes w.sizes old.seen w.seen on grown in omega arith);
         grown = grown;
         steps = (let a = o.steps in let l : length w.seen ≡ length v.seen = ap length seen in omega arith);
+        few_steps = (let a = o.steps in let f = sees.few in omega arith);
         few = subst (λ (l : List Node). length l ≤ 64) (sym seen) sees.few;
         seen = on;
         hands = ap (λ (z : View V). z.hands) o.same ∙ ap (λ (z : View V). z.hands) look;

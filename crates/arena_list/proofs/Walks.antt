@@ -91,13 +91,13 @@ module _ {V : Type 0} (v : View V) (sees : Sees (hand v) v.seen) where
       let slots = own_slot (left - 1) n t.1 c in
       let steps : u.list_steps ≡ w.list_steps + 1 = ap (λ (x : View V). x.list_steps) step in let began : v.list_steps ≡ old.list_steps + 1 = ap (λ (x : View V). x.list_steps) look in record {
         looked = subst (λ (l : List Node). SeenList m old.base old l) (sym seen) moment;
-        found = (left - 1, ap (λ (l : List Node). get_elem? l (left - 1)) seen ∙ t.1 ∙ ap some n_is);
+        found = record { place = left - 1; node_is = ap (λ (l : List Node). get_elem? l (left - 1)) seen ∙ t.1 ∙ ap some n_is; steps = (let a = o.steps in let b = o.within in let e : length u.seen ≡ length v.seen = ap length seen in omega arith) };
         none = tt;
         earlier = shown_grows old u (subst (λ (l : List Node). Begins old.seen l) (sym seen) begins) (ap (λ (x : View V). x.sizes) step ∙ ap (λ (x : View V). x.sizes) o.same ∙ ap (λ (x : View V). x.sizes) look);
         mine_is = (λ i. Some ((at ∙ t.2 ∙ slots.1) i)) ∙ ap (λ (b : Bool). when b (hand v).slot) (sym slots.0) ∙ ap (λ (h : Hand V). when h.linked h.slot) (sym same_hand);
         own = seen_own;
         some_step = (let a = o.steps in let b = o.within in omega arith);
-        steps = (let a = o.steps in let e : length u.seen ≡ length v.seen = ap length seen in omega arith);
+        few_steps = (let a = o.steps in let f = sees.few in omega arith);
         few = subst (λ (l : List Node). length l ≤ 64) (sym seen) sees.few;
         seen = subst (λ (l : List Node). Begins old.seen l) (sym seen) begins;
         hands = ap (λ (x : View V). x.hands) step ∙ ap (λ (x : View V). x.hands) o.same ∙ ap (λ (x : View V). x.hands) look;
@@ -112,14 +112,14 @@ module _ {V : Type 0} (v : View V) (sees : Sees (hand v) v.seen) where
         looked = subst (λ (l : List Node). SeenList m old.base old l) (sym seen) moment;
         found = tt;
         earlier = shown_grows old w (subst (λ (l : List Node). Begins old.seen l) (sym seen) begins) (ap (λ (x : View V). x.sizes) o.same ∙ ap (λ (x : View V). x.sizes) look);
-        none = λ k n e. λ c. o.past k n (omega arith) (ap (λ (l : List Node). get_elem? l k) (sym seen) ∙ e) (c ∙ ap (λ (h : Hand V). h.who) same_hand);
+        none = record { lacks = λ k n e. λ c. o.past k n (omega arith) (ap (λ (l : List Node). get_elem? l k) (sym seen) ∙ e) (c ∙ ap (λ (h : Hand V). h.who) same_hand); steps = (let a = o.steps in let e : length w.seen ≡ length v.seen = ap length seen in omega arith) };
         mine_is = ⊎_elim
             (λ t. let own = sees.linked t in absurd (o.past own.0 (node (hand v).slot (hand v).who) (omega arith) own.1 refl))
             (λ f. ap (λ (b : Bool). when b (hand v).slot) (sym f) ∙ ap (λ (h : Hand V). when h.linked h.slot) (sym same_hand))
             (cases_Bool (hand v).linked);
         own = seen_own;
         some_step = (let a = o.steps in omega arith);
-        steps = (let a = o.steps in let e : length w.seen ≡ length v.seen = ap length seen in omega arith);
+        few_steps = (let a = o.steps in let f = sees.few in omega arith);
         few = subst (λ (l : List Node). length l ≤ 64) (sym seen) sees.few;
         seen = subst (λ (l : List Node). Begins old.seen l) (sym seen) begins;
         hands = ap (λ (x : View V). x.hands) o.same ∙ ap (λ (x : View V). x.hands) look;
@@ -130,7 +130,7 @@ module _ {V : Type 0} (v : View V) (sees : Sees (hand v) v.seen) where
 -- ---- the tries of a join
 module _ {V : Type 0} (v : View V) where
   pub tries_none : HasTried v v
-  tries_none = record { who_is = refl; slot = refl; linked = refl; hold = refl; steps = omega arith; seen = begins_itself v.seen; sizes = refl; base = refl }
+  tries_none = record { who_is = refl; slot = refl; linked = refl; hold = refl; more_steps = omega arith; steps = omega arith; seen = begins_itself v.seen; sizes = refl; base = refl }
 
   pub tries_again : (w u : View V) → HasTried v w → u ≡ looked (noted w) u.seen → Begins w.seen u.seen → length w.seen < length u.seen → HasTried v u
   tries_again w u o is begins more = let steps : u.list_steps ≡ w.list_steps + 1 + 1 = ap (λ (x : View V). x.list_steps) is in record {
@@ -138,6 +138,7 @@ module _ {V : Type 0} (v : View V) where
     slot = ap (λ (x : View V). (hand x).slot) is ∙ o.slot;
     linked = ap (λ (x : View V). (hand x).linked) is ∙ o.linked;
     hold = ap (λ (x : View V). (hand x).hold) is ∙ o.hold;
+    more_steps = (let a = o.more_steps in omega arith);
     steps = (let a = o.steps in omega arith);
     seen = begins_on o.seen begins;
     sizes = ap (λ (x : View V). x.sizes) is ∙ o.sizes;
@@ -156,6 +157,8 @@ module _ {V : Type 0} (v : View V) where
         appended = (w.seen, o.seen, no_node, ap (λ (x : View V). x.seen) is ∙ (λ i. w.seen ++ node ((o.slot ∙ sym at) i) (o.who_is i) ∷ []));
         looked = (noted w, is, seen);
         steps = (let a = o.steps in omega arith);
+        some_steps = (let a = o.more_steps in omega arith);
+        few_steps = (let a = o.steps in omega arith);
         few = few;
         earlier = shown_grows v u (subst (λ (l : List Node). Begins v.seen l) (ap (λ (x : View V). x.seen) (sym is)) (begins_on o.seen (begins_more w.seen (own_node w ∷ [])))) (ap (λ (x : View V). x.sizes) is ∙ o.sizes);
         who_is = ap (λ (x : View V). (hand x).who) is ∙ o.who_is;

@@ -17,7 +17,7 @@ use Rattle.arena_list.specs.Made.{IsMadeOf, AreFirst}
 use Rattle.arena_list.specs.Views.{first_hand, who, out, HasSeenOwn}
 use Rattle.arena_list.specs.Marks.{marks, mark, marked_founding}
 use Rattle.arena_list.specs.declared.view.View.{View}
-use Rattle.arena_list.specs.Seats.{view, SameList, IsHome}
+use Rattle.arena_list.specs.Seats.{view, callers_of, SameList, IsHome}
 use Rattle.arena_list.specs.Closed.{AreAll}
 use Rattle.arena_list.proofs.Few.{or_at, at_mapped}
 use Rattle.arena_list.proofs.Lists.{at_below, at_there, at_end, same_elements, all_kept}
@@ -103,18 +103,9 @@ module _ {V : Type 0} (m : Meter V) (linked spare : List (Entry V)) (callers : L
 own_of : (s : ListSeat) → HasSeenOwn (view s)
 own_of s = seen_own marks s.seated
 
-module _ {V : Type 0} (cd : Coded V) (m : Meter V) (life : ℕ) (linked spare : List (Entry V)) (callers : List ℕ) (list : ArenaList V) (seats : List ListSeat) (fit : AreFit m life linked spare callers) (made : IsMadeOf life linked spare callers list) (first : AreFirst cd m list callers seats) where
-  abbrev key : Founding V
-  key = list.table.shared.key
-
-  key_fit : AreFit m key.life key.linked.items key.spare.items key.callers.items
-  key_fit = fit_as m key.life linked key.linked.items spare key.spare.items callers key.callers.items made.linked_are made.spare_are made.callers_are
-      (subst (λ (l : ℕ). AreFit m l linked spare callers) (sym made.life_is) fit)
-
+module _ {V : Type 0} (cd : Coded V) (m : Meter V) (linked spare : List (Entry V)) (callers : List ℕ) (list : ArenaList V) (seats : List ListSeat) (first : AreFirst cd m list linked spare callers seats) where
   is_home : (i c : ℕ) (s : ListSeat) → get_elem? callers i ≡ some c → get_elem? seats i ≡ some s → IsHome cd m list s
-  is_home i c s a b = let r = first.each i c s a b in let e = r.1.0 in let p = entry_at (key.linked.items ++ key.spare.items) c e r.1.1 in
-      let whose : who (view s) ≡ c = ap who r.1.2 ∙ hand_who marks (marked_founding cd m key) (fit_marked cd m key.life key.linked.items key.spare.items key.callers.items key_fit) i c (ap (λ (l : List ℕ). get_elem? l i) made.callers_are ∙ a) in
-      (r.0, (mark cd m e.part, ap out r.1.2, subst (λ (w : ℕ). Fits marks key.life w (mark cd m e.part)) (p.2 ∙ sym whose) (fits_marked cd m key.life e.caller e.part (key_fit.parts p.0 e p.1))), ap (λ (v : View Mark). v.base) r.1.2, own_of s)
+  is_home i c s a b = let r = first.each i c s a b in (r.of_list, r.rests, r.base_is, r.seen_own)
 
   -- each seat that `make` gives has its value at home
   pub all_home : All (IsHome cd m list) seats
@@ -128,9 +119,9 @@ module _ {V : Type 0} (cd : Coded V) (m : Meter V) (list : ArenaList V) (s t : L
 
 module _ {V : Type 0} (cd : Coded V) (m : Meter V) where
   -- what `close` asks
-  pub all_back : (list : ArenaList V) (seats : List ListSeat) → length seats ≡ length list.table.shared.key.callers.items → All (IsHome cd m list) seats → AreAll list seats
-  all_back list seats count home = record {
-    count = count;
+  pub all_back : (list : ArenaList V) (seats : List ListSeat) → length (callers_of list) ≤ length seats → All (IsHome cd m list) seats → AreAll list seats
+  all_back list seats enough home = record {
+    enough = enough;
     each = λ k s at. let h : IsHome cd m list s = subst (IsHome cd m list) (or_at seats k s s at) (home k s (at_below seats k s at)) in (h.0, (h.1.0, h.1.1));
   }
 

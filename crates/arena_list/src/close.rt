@@ -4,10 +4,9 @@ ghost use Rattle.std.specs.Slots.{slots_items, slots_filled, slots_len, IsFull};
 ghost use mathlib.Core.Option.{some};
 ghost use lib.ListN.{get_elem?};
 ghost use Rattle.arena_list.specs.Founded.{meter};
-ghost use Rattle.arena_list.specs.Marks.{mark, marked_entry};
 ghost use Rattle.arena_list.specs.Views.{shown};
-ghost use Rattle.arena_list.specs.Seats.{view, life_of, founding_of};
-ghost use Rattle.arena_list.specs.Closed.{HasTold, AreAll, AreApart, AreAtMost, AreLinked, used_sum, hand_of, slots_of, spares_of};
+ghost use Rattle.arena_list.specs.Seats.{view, life_of, founding_of, callers_of, wards_of};
+ghost use Rattle.arena_list.specs.Closed.{HasTold, AreAll, AreApart, AreAtMost, AreLinked, AreSpares, used_sum, hand_of, slots_of};
 
 use crate::collect::{place_others, pull_linked, pull_spares};
 use crate::entry::Entry;
@@ -125,15 +124,17 @@ impl<V: Part> ArenaList<V> {
     /// The linked entries, oldest first, and the spare ones, in the order of the seats, each with its value. Want of
     /// memory hands everything back.
     ///
-    /// All seats that `make` gave come back, in any order, and none has its slot out.
+    /// All seats that `make` gave come back, in any order, and none has its slot out. There are no more than those, so it
+    /// is enough to know that there are as many at least.
     pub fn close(
         self,
         alloc: Global,
         seats: Vec<ListSeat>,
     ) -> Result<(Vec<Entry<V>>, Vec<Entry<V>>), (NoMemory, ArenaList<V>, Vec<ListSeat>)>
         requires all { AreAll self seats.items }
-        ensures linked { IfOk result (λ r. AreLinked (mark V.row.coded (meter V.owner_of V.life_of V.used_of)) self.others.items (founding_of self).linked.items seats.items r.0.items) }
-        ensures spares { IfOk result (λ r. map (marked_entry V.row.coded (meter V.owner_of V.life_of V.used_of)) r.1.items ≡ spares_of (map hand_of seats.items)) }
+        ensures count { IfOk result (λ _. length seats.items ≡ length (callers_of self)) }
+        ensures linked { IfOk result (λ r. AreLinked V.row.coded (meter V.owner_of V.life_of V.used_of) (wards_of self) (founding_of self).linked.items seats.items r.0.items) }
+        ensures spares { IfOk result (λ r. AreSpares V.row.coded (meter V.owner_of V.life_of V.used_of) seats.items r.1.items) }
         // each answer that a seat got of `sizes` is at most what the linked entries use now
         ensures used { IfOk result (λ r. (k : ℕ) (s : _) → get_elem? seats.items k ≡ some s → shown (view s) ≤ used_sum (meter V.owner_of V.life_of V.used_of) r.0.items) }
         ensures apart { IfOk result (λ r. AreApart (meter V.owner_of V.life_of V.used_of) (life_of self) (r.0.items ++ r.1.items)) }

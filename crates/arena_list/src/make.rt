@@ -175,7 +175,7 @@ impl<V: Part> ArenaList<V> {
     ) -> Result<(ArenaList<V>, Vec<ListSeat>), (NoMemory, Vec<Entry<V>>, Vec<Entry<V>>)>
         requires fit { AreFit (meter V.owner_of V.life_of V.used_of) life linked.items spare.items callers.now }
         ensures list { IfOk result (λ r. IsMadeOf life linked.items spare.items callers.now r.0) }
-        ensures seats { IfOk result (λ r. AreFirst V.row.coded (meter V.owner_of V.life_of V.used_of) r.0 callers.now r.1.items) }
+        ensures seats { IfOk result (λ r. AreFirst V.row.coded (meter V.owner_of V.life_of V.used_of) r.0 linked.items spare.items callers.now r.1.items) }
         ensures refused { IfErr result (λ e. (e.1.items ≡ linked.items) × (e.2.items ≡ spare.items)) }
     {
         let Ok((mut others, mut seats)) = rooms(alloc, linked.len() + spare.len(), callers.len())

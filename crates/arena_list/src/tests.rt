@@ -4,7 +4,7 @@ ghost use Rattle.std.specs.Thread.{IsSync};
 ghost use Rattle.arena_list.specs.Founded.{meter, AreFit, Fits};
 ghost use Rattle.arena_list.specs.Views.{mine};
 ghost use Rattle.arena_list.specs.contracts.tests.Counter.{the_row};
-ghost use Rattle.arena_list.specs.Seats.{view, IsHome, AreHome};
+ghost use Rattle.arena_list.specs.Seats.{view, callers_of, IsHome, AreHome};
 
 use crate::{ArenaList, Entry, ListSeat};
 use arena_mem::Part;
@@ -73,7 +73,7 @@ fn made(
     requires { AreFit (meter (λ (c : Counter). c.owner) (λ (c : Counter). c.life) (λ (c : Counter). c.used)) 5 linked.items spare.items callers.now }
     ensures home { IfOk result (λ r. All (IsHome the_row.coded (meter (λ (c : Counter). c.owner) (λ (c : Counter). c.life) (λ (c : Counter). c.used)) r.0) r.1.items) }
     ensures count { IfOk result (λ r. length r.1.items ≡ length callers.now) }
-    ensures callers { IfOk result (λ r. length r.0.table.shared.key.callers.items ≡ length callers.now) }
+    ensures callers { IfOk result (λ r. length (callers_of r.0) ≡ length callers.now) }
 {
     match ArenaList::make(alloc, 5, linked, spare, callers) {
         Ok(made) => Ok(made),
@@ -87,7 +87,7 @@ fn closed(
     list: ArenaList<Counter>,
     seats: Vec<ListSeat>,
 ) -> Result<(Vec<Entry<Counter>>, Vec<Entry<Counter>>), Fail>
-    requires count { length seats.items ≡ length list.table.shared.key.callers.items }
+    requires enough { length (callers_of list) ≤ length seats.items }
     requires home { All (IsHome the_row.coded (meter (λ (c : Counter). c.owner) (λ (c : Counter). c.life) (λ (c : Counter). c.used)) list) seats.items }
 {
     match list.close(alloc, seats) {
@@ -105,7 +105,7 @@ fn made_again(
     requires { AreFit (meter (λ (c : Counter). c.owner) (λ (c : Counter). c.life) (λ (c : Counter). c.used)) 5 [] spare.items callers.now }
     ensures home { IfOk result (λ r. All (IsHome the_row.coded (meter (λ (c : Counter). c.owner) (λ (c : Counter). c.life) (λ (c : Counter). c.used)) r.0) r.1.items) }
     ensures count { IfOk result (λ r. length r.1.items ≡ length callers.now) }
-    ensures callers { IfOk result (λ r. length r.0.table.shared.key.callers.items ≡ length callers.now) }
+    ensures callers { IfOk result (λ r. length (callers_of r.0) ≡ length callers.now) }
 {
     match ArenaList::make(alloc, 5, Vec::new(alloc), spare, callers) {
         Ok(made) => Ok(made),
@@ -119,7 +119,7 @@ fn closed_again(
     list: ArenaList<Counter>,
     seats: Vec<ListSeat>,
 ) -> Result<(Vec<Entry<Counter>>, Vec<Entry<Counter>>), Fail>
-    requires count { length seats.items ≡ length list.table.shared.key.callers.items }
+    requires enough { length (callers_of list) ≤ length seats.items }
     requires home { All (IsHome the_row.coded (meter (λ (c : Counter). c.owner) (λ (c : Counter). c.life) (λ (c : Counter). c.used)) list) seats.items }
 {
     match list.close(alloc, seats) {
