@@ -12,6 +12,7 @@ use Rattle.arena_list.specs.declared.list.ListSeat.{ListSeat}
 use Rattle.arena_list.specs.declared.mark.Mark.{Mark}
 use Rattle.arena_list.specs.declared.view.Node.{Node}
 use Rattle.arena_list.specs.declared.view.View.{View}
+use Rattle.arena_list.specs.Core.{slot_count}
 use Rattle.arena_list.specs.Nodes.{before, head_of, node_word, Begins}
 use Rattle.arena_list.specs.declared.view.Hand.{Hand}
 use Rattle.arena_list.specs.declared.view.Hold.TheVariants.{Rests}
@@ -141,7 +142,7 @@ pub record Ended {V : Type 0} (c : Coded V) (m : Meter V) (k : Founding V) (v : 
   pub none_left : (rest left : List (Option V)) (spare : List (Entry V)) → Empties filled rest entries → map (marked_entry c m) spare ≡ spares_of (map hand_of seats) → Empties rest left spare → (i : ℕ) (x : Option V) → get_elem? left i ≡ some x → x ≡ None
 
 module _ {V : Type 0} (c : Coded V) (m : Meter V) (k : Founding V) (id : ℕ) (v : View Mark) (words : List ℕ) (slots parts : List (Option V)) (seats : List ListSeat) (final : Final (Seen (HoldsSeen c m k) id v) words slots)
-    (taken : (i : ℕ) (x : Option V) → get_elem? parts i ≡ some x → get_elem? slots i ≡ some x) (long : length parts ≡ 64)
+    (taken : (i : ℕ) (x : Option V) → get_elem? parts i ≡ some x → get_elem? slots i ≡ some x) (long : length parts ≡ slot_count)
     (hands : v.hands ≡ reverse (map hand_of seats)) (enough : length k.callers.items ≤ length seats) (rested : (i : ℕ) (t : ListSeat) → get_elem? seats i ≡ some t → Rested t) where
   abbrev key : Founding Mark
   key = marked_founding c m k

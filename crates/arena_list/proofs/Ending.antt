@@ -17,7 +17,7 @@ use Rattle.arena_list.specs.declared.view.Hand.{Hand}
 use Rattle.arena_list.specs.declared.mark.Mark.{Mark}
 use Rattle.arena_list.specs.declared.view.View.{View}
 use Rattle.arena_list.specs.Nodes.{node, before, head_of, node_word, slot_of, Begins}
-use Rattle.arena_list.specs.Core.{Standing}
+use Rattle.arena_list.specs.Core.{Standing, slot_count}
 use Rattle.arena_list.specs.Views.{out, shown, sum_seen}
 use Rattle.arena_list.specs.Founded.{Meter, Fits, Differ, slot, caller, node_of, others_of}
 use Rattle.arena_list.specs.Rule.{Holds, HoldsAt, IsHand, hand_count}
@@ -304,7 +304,7 @@ module _ (m : Meter Mark) (k : Founding Mark) (s : State (Option Mark) (View Mar
 
     -- a slot is one of 64 and its caller's, and its part fits
     IsSound : Entry Mark → Type 0
-    IsSound e = (e.slot < 64) × (r.holder e.slot ≡ some e.caller) × Fits m k.life e.caller e.part
+    IsSound e = (e.slot < slot_count) × (r.holder e.slot ≡ some e.caller) × Fits m k.life e.caller e.part
 
     linked_sound : (i : ℕ) (e : Entry Mark) → get_elem? linked_entries i ≡ some e → IsSound e
     unfolding IsSound
@@ -318,7 +318,7 @@ module _ (m : Meter Mark) (k : Founding Mark) (s : State (Option Mark) (View Mar
     spare_sound : (i : ℕ) (e : Entry Mark) → get_elem? spares i ≡ some e → IsSound e
     unfolding IsSound
     spare_sound i e a = let t = spare_seat i e a in let own = is_hand t.0 t.1 t.2 in let is = t.4 in
-        (subst (λ (n : ℕ). n < 64) (sym is.0) own.slot, ap r.holder is.0 ∙ own.held ∙ ap (λ (n : ℕ). some n) (sym is.1), own_fits t.0 t.1 e t.2 t.4)
+        (subst (λ (n : ℕ). n < slot_count) (sym is.0) own.slot, ap r.holder is.0 ∙ own.held ∙ ap (λ (n : ℕ). some n) (sym is.1), own_fits t.0 t.1 e t.2 t.4)
 
     all_sound : (i : ℕ) (e : Entry Mark) → get_elem? (linked_entries ++ spares) i ≡ some e → IsSound e
     all_sound i e a = ⊎_elim (λ t. linked_sound i e t) (λ t. spare_sound t.0 e t.2) (at_append linked_entries spares i e a)
@@ -379,7 +379,7 @@ module _ (m : Meter Mark) (k : Founding Mark) (s : State (Option Mark) (View Mar
         cases_maybe (some who) = inr (who, refl)
 
         -- no value is left
-        pub none_left : length homes ≡ 64 → (i : ℕ) (x : Option Mark) → get_elem? left i ≡ some x → x ≡ None
+        pub none_left : length homes ≡ slot_count → (i : ℕ) (x : Option Mark) → get_elem? left i ≡ some x → x ≡ None
         none_left long i x b = ⊎_elim
             (λ free. ⊎_elim (λ t. t) (λ t. ⊎_elim (λ t. t)
             (λ t. ⊎_elim (λ h. at_one homes i x None h (kept i None (r.idle i (let l = at_below homes i x h in omega arith) free)))
@@ -401,7 +401,7 @@ pub record Ends (m : Meter Mark) (k : Founding Mark) (v : View Mark) (seats : Li
 
 -- these words, and parts that are the values of the slots
 module _ (m : Meter Mark) (k : Founding Mark) (id : ℕ) (v : View Mark) (words : List ℕ) (slots parts : List (Option Mark)) (seats : List ListSeat) (final : Final (Seen (Holds m k) id v) words slots)
-    (taken : (i : ℕ) (x : Option Mark) → get_elem? parts i ≡ some x → get_elem? slots i ≡ some x) (long : length parts ≡ 64)
+    (taken : (i : ℕ) (x : Option Mark) → get_elem? parts i ≡ some x → get_elem? slots i ≡ some x) (long : length parts ≡ slot_count)
     (hands : v.hands ≡ reverse (map hand_of seats)) (enough : length k.callers.items ≤ length seats) (rested : (i : ℕ) (t : ListSeat) → get_elem? seats i ≡ some t → Rested t) where
   abbrev state : State (Option Mark) (View Mark)
   state = final.0

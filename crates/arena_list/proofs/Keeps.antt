@@ -11,7 +11,7 @@ use Rattle.arena_list.specs.declared.view.Hold.TheVariants.{Vacant, Filling, Awa
 use Rattle.arena_list.specs.declared.view.Hand.{Hand}
 use Rattle.arena_list.specs.declared.view.View.{View}
 use Rattle.arena_list.specs.Nodes.{node_word}
-use Rattle.arena_list.specs.Core.{Core}
+use Rattle.arena_list.specs.Core.{Core, slot_count}
 use Rattle.arena_list.specs.Words.{node_at, state_at}
 use Rattle.arena_list.specs.Views.{hand, first_hand}
 use Rattle.arena_list.specs.Founded.{Meter, Fits}
@@ -103,7 +103,7 @@ module _ {V : Type 0} (m : Meter V) (k : Founding V) where
         own.spare spare i n e (some-injective _ _ (sym (r.listed i n e).held ∙ ap r.holder same ∙ own.held))
 
     noting : (hand v).linked ≡ false → (new : ℕ) → Moves r.core r.holder s.words s.homes (hand v) r.core (set s.words (node_at (hand v).slot) new) s.homes
-    noting spare new = let own = (own_hand s r id v at alone).1 in let small : (hand v).slot < 64 = own.slot in record {
+    noting spare new = let own = (own_hand s r id v at alone).1 in let small : (hand v).slot < slot_count = own.slot in record {
       grows = begins_itself r.core.joined;
       adds = λ i n e. inl e;
       callers = r.callers;

@@ -16,7 +16,7 @@ use Rattle.arena_list.specs.declared.view.Hold.TheVariants.{Vacant, Filling, Awa
 use Rattle.arena_list.specs.declared.view.Hand.{Hand}
 use Rattle.arena_list.specs.declared.view.View.{View}
 use Rattle.arena_list.specs.Nodes.{node, Begins}
-use Rattle.arena_list.specs.Core.{Core, Standing, IsListed, CallersDiffer}
+use Rattle.arena_list.specs.Core.{Core, Standing, IsListed, CallersDiffer, slot_count}
 use Rattle.arena_list.specs.Words.{Show, node_at}
 use Rattle.arena_list.specs.Founded.{Meter}
 use Rattle.arena_list.specs.Rule.{Holds, HoldsAt, IsHand, Knows, IsWard, Stands, hand_count}
@@ -32,10 +32,10 @@ pub record Moves {V : Type 0} (c : Core) (holder : ℕ → maybe.Option ℕ) (wo
   pub callers : CallersDiffer c'.joined
   pub standing : (slot : ℕ) → slot ≢ h.slot → c'.standing slot ≡ c.standing slot
   pub used : (c.standing h.slot).used ≤ (c'.standing h.slot).used
-  pub nodes : (slot : ℕ) → slot < 64 → slot ≢ h.slot → slice_index words' (node_at slot) ≡ slice_index words (node_at slot)
+  pub nodes : (slot : ℕ) → slot < slot_count → slot ≢ h.slot → slice_index words' (node_at slot) ≡ slice_index words (node_at slot)
   pub homes_same : (slot : ℕ) → slot ≢ h.slot → get_elem? homes' slot ≡ get_elem? homes slot
   pub show : Show c' words'
-  pub slots : length homes' ≡ 64
+  pub slots : length homes' ≡ slot_count
 
 module _ {V : Type 0} (m : Meter V) (life : ℕ) where
   hold_moves : (c c' : Core) (hs hs' : Homes V) (g : Hand V) (x : Hold V) → c'.standing g.slot ≡ c.standing g.slot → get_elem? hs' g.slot ≡ get_elem? hs g.slot → HoldsAt m life c hs g x → HoldsAt m life c' hs' g x

@@ -8,6 +8,7 @@ use Rattle.atomic_table.specs.Table.{rest as rest_of_slots}
 use prog.Atomic.{either}
 use Rattle.atomic_table.specs.Table.{Step, step, Allows}
 use Rattle.arena_list.specs.declared.founding.Founding.{Founding}
+use Rattle.arena_list.specs.Core.{slot_count}
 use Rattle.arena_list.specs.Nodes.{node_word}
 use Rattle.arena_list.specs.Words.{node_at, state_at}
 use Rattle.arena_list.specs.Rule.{Holds}
@@ -92,7 +93,7 @@ seen_own m {caller = caller} {slot = slot} {me = me} o at is = let told = mine_t
 
 module _ {V : Type 0} (m : Meter V) {caller slot used head : ℕ} {linked : Bool} {me : Sat V} where
   -- a step that leaves the hands
-  pub seated_as : (head' : ℕ) (me' : Sat V) → me'.0.hands ≡ me.0.hands → me'.1 ≡ me.1 → head' ≡ head_of me'.0.seen → next_link me'.0 ≤ 64 → length me'.0.seen ≤ 64 → (linked ≡ false → length me'.0.seen < 64) → (linked ≡ true → ¬ LacksNode me'.0.seen slot caller)
+  pub seated_as : (head' : ℕ) (me' : Sat V) → me'.0.hands ≡ me.0.hands → me'.1 ≡ me.1 → head' ≡ head_of me'.0.seen → next_link me'.0 ≤ slot_count → length me'.0.seen ≤ slot_count → (linked ≡ false → length me'.0.seen < slot_count) → (linked ≡ true → ¬ LacksNode me'.0.seen slot caller)
       → IsSeated m caller slot linked used head me → IsSeated m caller slot linked used head' me'
   seated_as head' me' hands carries is link few fewer own o = let h : hand me'.0 ≡ hand me.0 = ap first_hand hands in record {
     one = ap length hands ∙ o.one;
@@ -118,7 +119,7 @@ module _ {V : Type 0} (m : Meter V) {caller slot used head : ℕ} {linked : Bool
   -- after a step that changes the count alone
   pub seated_count : (me' : Sat V) → me' ≡ (counted me.0, me.1) → IsSeated m caller slot linked used head me → IsSeated m caller slot linked used head me'
   seated_count me' is o = let seen : me'.0.seen ≡ me.0.seen = ap (λ (x : Sat V). x.0.seen) is in seated_as head me' (ap (λ (x : Sat V). x.0.hands) is) (ap (λ (x : Sat V). x.1) is) (o.head_is ∙ ap head_of (sym seen))
-      (subst (λ (l : List Node). before l (length l) ≤ 64) (sym seen) o.link_small) (subst (λ (l : List Node). length l ≤ 64) (sym seen) o.few) (λ e. subst (λ (l : List Node). length l < 64) (sym seen) (o.fewer e)) (λ e. subst (λ (l : List Node). ¬ LacksNode l slot caller) (sym seen) (o.own e)) o
+      (subst (λ (l : List Node). before l (length l) ≤ slot_count) (sym seen) o.link_small) (subst (λ (l : List Node). length l ≤ slot_count) (sym seen) o.few) (λ e. subst (λ (l : List Node). length l < slot_count) (sym seen) (o.fewer e)) (λ e. subst (λ (l : List Node). ¬ LacksNode l slot caller) (sym seen) (o.own e)) o
 
   -- the numbers in the head that was seen
   pub head_count : IsSeated m caller slot linked used head me → head / 2 ^ 32 ≡ length me.0.seen
@@ -192,10 +193,10 @@ module _ {V : Type 0} (m : Meter V) {caller slot used head : ℕ} {linked : Bool
     head_is = o.head_is ∙ ap head_of (sym seen);
     slot_small = o.slot_small;
     used_small = small;
-    link_small = subst (λ (l : List Node). before l (length l) ≤ 64) (sym seen) o.link_small;
+    link_small = subst (λ (l : List Node). before l (length l) ≤ slot_count) (sym seen) o.link_small;
     own = λ e. subst (λ (l : List Node). ¬ LacksNode l slot caller) (sym seen) (o.own e);
-    few = subst (λ (l : List Node). length l ≤ 64) (sym seen) o.few;
-    fewer = λ e. subst (λ (l : List Node). length l < 64) (sym seen) (o.fewer e);
+    few = subst (λ (l : List Node). length l ≤ slot_count) (sym seen) o.few;
+    fewer = λ e. subst (λ (l : List Node). length l < slot_count) (sym seen) (o.fewer e);
     free = carries;
   }
 
@@ -232,8 +233,8 @@ module _ {V : Type 0} (m : Meter V) {caller slot used head : ℕ} {linked : Bool
   -- after a load of a state
   pub seated_sized : (i used' : ℕ) (me' : Sat V) → me' ≡ (sized me.0 i used', me.1) → IsSeated m caller slot linked used head me → IsSeated m caller slot linked used head me'
   seated_sized i used' me' is o = let seen : me'.0.seen ≡ me.0.seen = ap (λ (x : Sat V). x.0.seen) is in seated_as head me' (ap (λ (x : Sat V). x.0.hands) is) (ap (λ (x : Sat V). x.1) is) (o.head_is ∙ ap head_of (sym seen))
-      (subst (λ (l : List Node). before l (length l) ≤ 64) (sym seen) o.link_small) (subst (λ (l : List Node). length l ≤ 64) (sym seen) o.few) (λ e. subst (λ (l : List Node). length l < 64) (sym seen) (o.fewer e)) (λ e. subst (λ (l : List Node). ¬ LacksNode l slot caller) (sym seen) (o.own e)) o
+      (subst (λ (l : List Node). before l (length l) ≤ slot_count) (sym seen) o.link_small) (subst (λ (l : List Node). length l ≤ slot_count) (sym seen) o.few) (λ e. subst (λ (l : List Node). length l < slot_count) (sym seen) (o.fewer e)) (λ e. subst (λ (l : List Node). ¬ LacksNode l slot caller) (sym seen) (o.own e)) o
 
   -- the load of a state
-  pub size_step : (k : Founding V) (slots id word i : ℕ) → IsSeated m caller slot linked used head me → i < 64 → word ≡ 80 + 8 * i → Allows (Holds m k) slots id me word (λ n. n) (saw_size m (step slots word 0 0 none) me)
+  pub size_step : (k : Founding V) (slots id word i : ℕ) → IsSeated m caller slot linked used head me → i < slot_count → word ≡ 80 + 8 * i → Allows (Holds m k) slots id me word (λ n. n) (saw_size m (step slots word 0 0 none) me)
   size_step k slots id word i o low at = subst (λ (w : ℕ). Allows (Holds m k) slots id me w (λ n. n) (saw_size m (step slots w 0 0 none) me)) (sym at) (sizes_up m k slots id i me o.one low)

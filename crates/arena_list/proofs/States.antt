@@ -17,7 +17,7 @@ use Rattle.arena_list.specs.declared.view.Hold.TheVariants.{Vacant, Filling, Awa
 use Rattle.arena_list.specs.declared.view.Hand.{Hand}
 use Rattle.arena_list.specs.declared.view.View.{View}
 use Rattle.arena_list.specs.Nodes.{Begins}
-use Rattle.arena_list.specs.Core.{Core, Standing, core, rests, away}
+use Rattle.arena_list.specs.Core.{Core, Standing, core, rests, away, slot_count}
 use Rattle.arena_list.specs.Words.{Show, node_at, state_at, state_word, bit}
 use Rattle.arena_list.specs.Views.{hand}
 use Rattle.arena_list.specs.Founded.{Meter, Fits}
@@ -75,7 +75,7 @@ module _ {V : Type 0} (m : Meter V) (k : Founding V) where
           (λ ne. get_or-set_other s.words (state_at h.slot) (state_at slot) new 0 (λ t. ne (omega arith)) ∙ r.show.states slot low ∙ ap state_word (sym (upd_else r.core.standing h.slot slot x ne)));
     }
 
-    restated : (x : Standing) (new : ℕ) (hs : Homes V) → new ≡ state_word x → (r.core.standing h.slot).used ≤ x.used → length hs ≡ 64 → ((slot : ℕ) → slot ≢ h.slot → get_elem? hs slot ≡ get_elem? s.homes slot)
+    restated : (x : Standing) (new : ℕ) (hs : Homes V) → new ≡ state_word x → (r.core.standing h.slot).used ≤ x.used → length hs ≡ slot_count → ((slot : ℕ) → slot ≢ h.slot → get_elem? hs slot ≡ get_elem? s.homes slot)
         → Moves r.core r.holder s.words s.homes h (after x) (set s.words (state_at h.slot) new) hs
     unfolding after
     restated x new hs is more slots same = record {
@@ -113,7 +113,7 @@ module _ {V : Type 0} (m : Meter V) (k : Founding V) where
     }
 
     -- what the seat saw stays at most what is shown
-    knows_after : (x : Standing) (w : View V) → (r.core.standing h.slot).used ≤ x.used → w.seen ≡ v.seen → w.pasts ≡ v.pasts → length w.sizes ≡ 64 → ((slot : ℕ) → slot ≢ h.slot → slice_index w.sizes slot ≡ slice_index v.sizes slot) → slice_index w.sizes h.slot ≤ x.used → Knows (after x) w
+    knows_after : (x : Standing) (w : View V) → (r.core.standing h.slot).used ≤ x.used → w.seen ≡ v.seen → w.pasts ≡ v.pasts → length w.sizes ≡ slot_count → ((slot : ℕ) → slot ≢ h.slot → slice_index w.sizes slot ≡ slice_index v.sizes slot) → slice_index w.sizes h.slot ≤ x.used → Knows (after x) w
     unfolding after
     knows_after x w more seen pasts room others here = let knows = r.known id v at in record {
       seen = subst (λ (l : List Node). Begins l r.core.joined) (sym seen) knows.seen;
@@ -222,7 +222,7 @@ module _ {V : Type 0} (m : Meter V) (k : Founding V) where
         ),
       )
 
-  pub sizes_up : (slots id slot : ℕ) (me : Sat V) → length me.0.hands ≡ 1 → slot < 64
+  pub sizes_up : (slots id slot : ℕ) (me : Sat V) → length me.0.hands ≡ 1 → slot < slot_count
       → Allows (Holds m k) slots id me (state_at slot) (λ n. n) (saw_size m (step slots (state_at slot) 0 0 none) me)
   sizes_up slots id slot me alone low s r _ at _ = let v = me.0 in let h = hand v in let o = own s r id v at alone in let word : ℕ = get_or s.words (state_at slot) 0 in
       let w = sized v slot (word / 2) in let knows = r.known id v at in let state = r.show.states slot low in let found : word / 2 ≡ (r.core.standing slot).used = half word (r.core.standing slot) state in

@@ -9,6 +9,7 @@ use Rattle.std.proofs.lemmas.Bool.{cases_Bool}
 use Rattle.arena_list.specs.declared.view.Node.{Node}
 use Rattle.arena_list.specs.declared.view.Hand.{Hand}
 use Rattle.arena_list.specs.declared.view.View.{View}
+use Rattle.arena_list.specs.Core.{slot_count}
 use Rattle.arena_list.specs.Nodes.{node, before, head_of, node_word, Begins}
 use Rattle.arena_list.specs.Views.{hand, who, mine, spare, when, unless, HasSeenOwn}
 use Rattle.arena_list.specs.Founded.{Meter}
@@ -31,17 +32,17 @@ module _ {V : Type 0} (v : View V) (sees : Sees (hand v) v.seen) where
   }
 
   -- the node to come
-  pub walk_node : (w : View V) (left link : ℕ) → IsWalking v w left link → 0 < left → (n : Node) × (get_elem? v.seen (left - 1) ≡ some n) × (link ≡ n.slot + 1) × (n.slot < 64)
+  pub walk_node : (w : View V) (left link : ℕ) → IsWalking v w left link → 0 < left → (n : Node) × (get_elem? v.seen (left - 1) ≡ some n) × (link ≡ n.slot + 1) × (n.slot < slot_count)
   walk_node w zero link o h = absurd (omega arith)
   walk_node w (suc k) link o h = let t = at_there v.seen k (let a = o.within in omega arith) in
       let here : get_elem? v.seen (suc k - 1) ≡ some t.0 = ap (get_elem? v.seen) (let z : suc k - 1 ≡ k = omega arith in z) ∙ t.1 in
       (t.0, here, o.link_is ∙ before_at v.seen k t.0 t.1, sees.small k t.0 t.1)
 
   -- what its word holds
-  pub word_parts : (word caller previous : ℕ) → word ≡ node_word caller previous → previous ≤ 64 → (word / 2 ^ 32 ≡ caller) × (word % 2 ^ 32 ≡ previous)
+  pub word_parts : (word caller previous : ℕ) → word ≡ node_word caller previous → previous ≤ slot_count → (word / 2 ^ 32 ≡ caller) × (word % 2 ^ 32 ≡ previous)
   word_parts word caller previous e h = (omega arith, omega arith)
 
-  previous_small : (k : ℕ) → before v.seen k ≤ 64
+  previous_small : (k : ℕ) → before v.seen k ≤ slot_count
   previous_small k = before_small v.seen sees.small k
 
   -- what reading it showed
@@ -98,7 +99,7 @@ module _ {V : Type 0} (v : View V) (sees : Sees (hand v) v.seen) where
         own = seen_own;
         some_step = (let a = o.steps in let b = o.within in omega arith);
         few_steps = (let a = o.steps in let f = sees.few in omega arith);
-        few = subst (λ (l : List Node). length l ≤ 64) (sym seen) sees.few;
+        few = subst (λ (l : List Node). length l ≤ slot_count) (sym seen) sees.few;
         seen = subst (λ (l : List Node). Begins old.seen l) (sym seen) begins;
         hands = ap (λ (x : View V). x.hands) step ∙ ap (λ (x : View V). x.hands) o.same ∙ ap (λ (x : View V). x.hands) look;
         sizes = ap (λ (x : View V). x.sizes) step ∙ ap (λ (x : View V). x.sizes) o.same ∙ ap (λ (x : View V). x.sizes) look;
@@ -120,7 +121,7 @@ module _ {V : Type 0} (v : View V) (sees : Sees (hand v) v.seen) where
         own = seen_own;
         some_step = (let a = o.steps in omega arith);
         few_steps = (let a = o.steps in let f = sees.few in omega arith);
-        few = subst (λ (l : List Node). length l ≤ 64) (sym seen) sees.few;
+        few = subst (λ (l : List Node). length l ≤ slot_count) (sym seen) sees.few;
         seen = subst (λ (l : List Node). Begins old.seen l) (sym seen) begins;
         hands = ap (λ (x : View V). x.hands) o.same ∙ ap (λ (x : View V). x.hands) look;
         sizes = ap (λ (x : View V). x.sizes) o.same ∙ ap (λ (x : View V). x.sizes) look;
@@ -145,7 +146,7 @@ module _ {V : Type 0} (v : View V) where
     base = ap (λ (x : View V). x.base) is ∙ o.base;
   }
 
-  pub tries_end : (m : Meter V) (w u : View V) (slot : ℕ) → HasTried v w → u ≡ joined (noted w) → SeenList m w.base (noted w) w.seen → (hand v).linked ≡ false → length u.seen ≤ 64 → slot ≡ (hand v).slot → HasSeenOwn u → HasJoined m v u slot
+  pub tries_end : (m : Meter V) (w u : View V) (slot : ℕ) → HasTried v w → u ≡ joined (noted w) → SeenList m w.base (noted w) w.seen → (hand v).linked ≡ false → length u.seen ≤ slot_count → slot ≡ (hand v).slot → HasSeenOwn u → HasJoined m v u slot
   tries_end m w u slot o is seen spare few at seen_own = let steps : u.list_steps ≡ w.list_steps + 1 + 1 = ap (λ (x : View V). x.list_steps) is in
       let long : length u.seen ≡ length w.seen + 1 = ap (λ (x : View V). length x.seen) is ∙ length-append w.seen (node (hand w).slot (hand w).who ∷ []) in
       -- the list of that moment has no node of the seat's caller, who has a spare

@@ -12,6 +12,7 @@ use Rattle.arena_list.specs.declared.list.ListSeat.{ListSeat}
 use Rattle.arena_list.specs.declared.list.ArenaList.{ArenaList}
 use Rattle.arena_list.specs.declared.mark.Mark.{Mark}
 use Rattle.arena_list.specs.declared.view.Hand.{Hand}
+use Rattle.arena_list.specs.Core.{slot_count}
 use Rattle.arena_list.specs.Founded.{Meter, Differ, AreFit, Fits, has, slot, caller}
 use Rattle.arena_list.specs.Made.{IsMadeOf, AreFirst}
 use Rattle.arena_list.specs.Views.{first_hand, who, out, HasSeenOwn}
@@ -55,19 +56,19 @@ module _ {V : Type 0} (m : Meter V) where
 -- beside them at most one linked entry, whose caller is 99 and has no seat
 pub record IsBeside {V : Type 0} (m : Meter V) (linked : List (Entry V)) (n : ℕ) : Type 0 where
   pub one : length linked ≤ 1
-  pub entry : (k : ℕ) (e : Entry V) → get_elem? linked k ≡ some e → (n ≤ e.slot) × (e.slot < 64) × (e.caller ≡ 99) × Fits m 5 e.caller e.part
+  pub entry : (k : ℕ) (e : Entry V) → get_elem? linked k ≡ some e → (n ≤ e.slot) × (e.slot < slot_count) × (e.caller ≡ 99) × Fits m 5 e.caller e.part
 
 module _ {V : Type 0} (m : Meter V) (n : ℕ) where
   pub none_beside : (linked : List (Entry V)) → linked ≡ [] → IsBeside m linked n
   none_beside linked is = subst (λ (l : List (Entry V)). IsBeside m l n) (sym is) (record { one = omega arith; entry = λ k e at. absurd (some-ne-none e (sym at)) })
 
-  pub one_beside : (linked : List (Entry V)) (e : Entry V) → linked ≡ e ∷ [] → n ≤ e.slot → e.slot < 64 → e.caller ≡ 99 → Fits m 5 e.caller e.part → IsBeside m linked n
+  pub one_beside : (linked : List (Entry V)) (e : Entry V) → linked ≡ e ∷ [] → n ≤ e.slot → e.slot < slot_count → e.caller ≡ 99 → Fits m 5 e.caller e.part → IsBeside m linked n
   one_beside linked e is low small whose fits = subst (λ (l : List (Entry V)). IsBeside m l n) (sym is) (record {
     one = omega arith;
-    entry = λ k x at. ⊎_elim (λ t. absurd (some-ne-none x (sym t))) (λ t. subst (λ (y : Entry V). (n ≤ y.slot) × (y.slot < 64) × (y.caller ≡ 99) × Fits m 5 y.caller y.part) t.1 (low, small, whose, fits)) (at_end [] e x k at);
+    entry = λ k x at. ⊎_elim (λ t. absurd (some-ne-none x (sym t))) (λ t. subst (λ (y : Entry V). (n ≤ y.slot) × (y.slot < slot_count) × (y.caller ≡ 99) × Fits m 5 y.caller y.part) t.1 (low, small, whose, fits)) (at_end [] e x k at);
   })
 
-module _ {V : Type 0} (m : Meter V) (linked spare : List (Entry V)) (callers : List ℕ) (n : ℕ) (o : AreSpares m spare callers n) (b : IsBeside m linked n) (some_one : 0 < n) (few : n ≤ 64) where
+module _ {V : Type 0} (m : Meter V) (linked spare : List (Entry V)) (callers : List ℕ) (n : ℕ) (o : AreSpares m spare callers n) (b : IsBeside m linked n) (some_one : 0 < n) (few : n ≤ slot_count) where
   same_linked : (i j : ℕ) (x y : Entry V) → get_elem? linked i ≡ some x → get_elem? linked j ≡ some y → i ≡ j
   same_linked i j x y p q = let one = b.one in let k = at_below linked i x p in let l = at_below linked j y q in omega arith
 

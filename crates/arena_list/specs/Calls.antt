@@ -4,6 +4,7 @@ use mathlib.Core.Option.{some}
 use lib.ListN.{get_elem?}
 use Rattle.arena_list.specs.declared.view.Node.{Node}
 use Rattle.arena_list.specs.declared.view.View.{View}
+use Rattle.arena_list.specs.Core.{slot_count}
 use Rattle.arena_list.specs.Nodes.{node, before, Begins, HasNode}
 use Rattle.arena_list.specs.Views.{hand, who, mine, spare, out, shown, sum_seen, HasSeenOwn}
 use Rattle.arena_list.specs.Founded.{Meter}
@@ -39,8 +40,8 @@ module _ {V : Type 0} where
     pub own : HasSeenOwn w
     -- one step for the look, and at most one for each node
     pub some_step : v.list_steps + 1 ≤ w.list_steps
-    pub few_steps : w.list_steps ≤ v.list_steps + 65
-    pub few : length w.seen ≤ 64
+    pub few_steps : w.list_steps ≤ v.list_steps + (slot_count + 1)
+    pub few : length w.seen ≤ slot_count
     pub seen : Begins v.seen w.seen
     pub hands : w.hands ≡ v.hands
     pub sizes : w.sizes ≡ v.sizes
@@ -69,8 +70,8 @@ module _ {V : Type 0} where
     -- two steps for each exchange, of which each that failed showed a longer list
     pub steps : w.list_steps + 2 * length v.seen ≤ v.list_steps + 2 * length w.seen
     pub some_steps : v.list_steps + 2 ≤ w.list_steps
-    pub few_steps : w.list_steps ≤ v.list_steps + 128
-    pub few : length w.seen ≤ 64
+    pub few_steps : w.list_steps ≤ v.list_steps + 2 * slot_count
+    pub few : length w.seen ≤ slot_count
     pub earlier : shown v ≤ shown w
     pub who_is : who w ≡ who v
     pub hold : out w ≡ out v
@@ -120,8 +121,8 @@ module _ {V : Type 0} where
     pub earlier : shown v ≤ answer
     pub grown : (slot : ℕ) → slice_index v.sizes slot ≤ slice_index w.sizes slot
     pub steps : w.list_steps ≡ v.list_steps + 1 + length w.seen
-    pub few_steps : w.list_steps ≤ v.list_steps + 65
-    pub few : length w.seen ≤ 64
+    pub few_steps : w.list_steps ≤ v.list_steps + (slot_count + 1)
+    pub few : length w.seen ≤ slot_count
     pub seen : Begins v.seen w.seen
     pub hands : w.hands ≡ v.hands
     pub base : w.base ≡ v.base

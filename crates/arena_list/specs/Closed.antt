@@ -12,6 +12,7 @@ use Rattle.arena_list.specs.declared.view.Hold.TheVariants.{Vacant, Filling, Awa
 use Rattle.arena_list.specs.declared.view.Hand.{Hand}
 use Rattle.arena_list.specs.declared.mark.Mark.{Mark}
 use Rattle.arena_list.specs.declared.view.View.{View}
+use Rattle.arena_list.specs.Core.{slot_count}
 use Rattle.arena_list.specs.Nodes.{Begins}
 use Rattle.arena_list.specs.Founded.{Meter, Fits, Differ, slot, caller, node_of}
 use Rattle.arena_list.specs.Marks.{marked_entry}
@@ -54,7 +55,7 @@ module _ {V : Type 0} where
   pub record AreApart (m : Meter V) (life : ℕ) (es : List (Entry V)) : Type 0 where
     pub slots : Differ (map slot es)
     pub callers : Differ (map caller es)
-    pub small : (i : ℕ) (e : Entry V) → get_elem? es i ≡ some e → e.slot < 64
+    pub small : (i : ℕ) (e : Entry V) → get_elem? es i ≡ some e → e.slot < slot_count
     pub parts : (i : ℕ) (e : Entry V) → get_elem? es i ≡ some e → Fits m life e.caller e.part
 
 abbrev pub hand_of : ListSeat → Hand Mark

@@ -10,6 +10,7 @@ use Rattle.arena_list.specs.declared.list.ListSeat.{ListSeat}
 use Rattle.arena_list.specs.declared.view.Hold.TheVariants.{Vacant}
 use Rattle.arena_list.specs.declared.mark.Mark.{Mark}
 use Rattle.arena_list.specs.declared.view.View.{View}
+use Rattle.arena_list.specs.Core.{slot_count}
 use Rattle.arena_list.specs.Founded.{Meter, entry_of, hand_for, node_of, others_of}
 use Rattle.arena_list.specs.Marks.{marks, mark, marked_founding}
 use Rattle.arena_list.specs.Views.{who, mine, spare, HasSeenOwn}
@@ -20,7 +21,7 @@ use Rattle.arena_list.specs.Seats.{view, life_of, founding_of, callers_of, wards
 module _ {V : Type 0} where
   -- the view of a caller's seat whose slot isn't filled yet
   abbrev pub claimed_view : Founding V → ℕ → View V
-  claimed_view k who = record { hands = record (hand_for k who) { hold = Vacant } ∷ []; seen = map node_of k.linked.items; list_steps = 0; sizes = replicate 64 0; base = k; pasts = [] }
+  claimed_view k who = record { hands = record (hand_for k who) { hold = Vacant } ∷ []; seen = map node_of k.linked.items; list_steps = 0; sizes = replicate slot_count 0; base = k; pasts = [] }
 
 module _ {V : Type 0} (c : Coded V) (m : Meter V) where
   abbrev pub given : View Mark → Option (Entry V) → View Mark

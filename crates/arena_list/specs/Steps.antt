@@ -10,7 +10,7 @@ use Rattle.arena_list.specs.declared.view.Hold.TheVariants.{Vacant, Filling, Awa
 use Rattle.arena_list.specs.declared.view.Hand.{Hand}
 use Rattle.arena_list.specs.declared.view.View.{View}
 use Rattle.arena_list.specs.Nodes.{node, before, head_of, node_word, Begins, HasNode, LacksNode}
-use Rattle.arena_list.specs.Core.{CallersDiffer}
+use Rattle.arena_list.specs.Core.{CallersDiffer, slot_count}
 use Rattle.arena_list.specs.Words.{node_at, state_at}
 use Rattle.arena_list.specs.Views.{hand}
 use Rattle.arena_list.specs.Founded.{Meter}
@@ -22,9 +22,9 @@ pub record Sees {V : Type 0} (h : Hand V) (nodes : List Node) : Type 0 where
   pub spare : h.linked ≡ false → (k : ℕ) (n : Node) → get_elem? nodes k ≡ some n → n.caller ≢ h.who
   pub callers : CallersDiffer nodes
   pub slots : (i j : ℕ) (n o : Node) → get_elem? nodes i ≡ some n → get_elem? nodes j ≡ some o → n.slot ≡ o.slot → i ≡ j
-  pub small : (k : ℕ) (n : Node) → get_elem? nodes k ≡ some n → n.slot < 64
-  pub few : length nodes ≤ 64
-  pub fewer : h.linked ≡ false → length nodes < 64
+  pub small : (k : ℕ) (n : Node) → get_elem? nodes k ≡ some n → n.slot < slot_count
+  pub few : length nodes ≤ slot_count
+  pub fewer : h.linked ≡ false → length nodes < slot_count
 
 -- a seat: its view, and the slots that it holds
 abbrev pub Sat : Type 0 → Type 0
@@ -137,7 +137,7 @@ module _ {V : Type 0} where
   both v w = record { hands = v.hands ++ w.hands; seen = longer v.seen w.seen; list_steps = v.list_steps + w.list_steps; sizes = greater v.sizes w.sizes; base = v.base; pasts = v.seen ∷ w.seen ∷ (v.pasts ++ w.pasts) }
 
   abbrev pub spent : View V
-  spent = record { hands = []; seen = []; list_steps = 0; sizes = replicate 64 0; base = record { life = 0; linked = untold; spare = untold; callers = untold }; pasts = [] }
+  spent = record { hands = []; seen = []; list_steps = 0; sizes = replicate slot_count 0; base = record { life = 0; linked = untold; spare = untold; callers = untold }; pasts = [] }
 
   -- the view of a seat that has one
   abbrev pub sole : List (View V) → View V
@@ -152,12 +152,12 @@ pub record IsSeated {V : Type 0} (m : Meter V) (caller slot : ℕ) (linked : Boo
   pub linked_is : linked ≡ (hand me.0).linked
   pub used_is : used ≡ used_now m (hand me.0).hold
   pub head_is : head ≡ head_of me.0.seen
-  pub slot_small : slot < 64
+  pub slot_small : slot < slot_count
   pub used_small : used < 2 ^ 63
-  pub link_small : next_link me.0 ≤ 64
+  pub link_small : next_link me.0 ≤ slot_count
   -- a seat whose slot is in the list has seen its own node
   pub own : linked ≡ true → ¬ LacksNode me.0.seen slot caller
-  pub few : length me.0.seen ≤ 64
-  pub fewer : linked ≡ false → length me.0.seen < 64
+  pub few : length me.0.seen ≤ slot_count
+  pub fewer : linked ≡ false → length me.0.seen < slot_count
   -- between two calls it holds no slot
   pub free : me.1 ≡ []

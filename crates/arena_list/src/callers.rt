@@ -1,8 +1,9 @@
 //! Callers as the arena above is one: over the clauses of the public calls alone, so that each proves with no proof file.
-ghost use Rattle.std.specs.Prelude.{◌≡◌, ℕ, ◌+◌, ◌<◌, ◌≤◌, Some, IfOk, IfErr, IfSome, IfNone, length};
+ghost use Rattle.std.specs.Prelude.{◌≡◌, ℕ, ◌+◌, ◌*◌, ◌<◌, ◌≤◌, Some, IfOk, IfErr, IfSome, IfNone, length};
 ghost use Rattle.std.specs.Option.{ForSome};
 ghost use mathlib.Core.Option.{some};
 ghost use lib.ListN.{get_elem?};
+ghost use Rattle.arena_list.specs.Core.{slot_count};
 ghost use Rattle.arena_list.specs.declared.view.Hold.TheVariants.{Away};
 ghost use Rattle.arena_list.specs.Founded.{meter, AreFit, Fits};
 ghost use Rattle.arena_list.specs.Marks.{marks};
@@ -38,7 +39,7 @@ pub(crate) fn enter<V: Part>(
     ensures shown { shown (view seat.old) ≤ shown (view seat.new) }
     ensures cached { IfSome known (λ _. (view seat.new).list_steps ≡ (view seat.old).list_steps) }
     ensures walked { IfNone known ((view seat.old).list_steps < (view seat.new).list_steps) }
-    ensures few_steps { (view seat.new).list_steps ≤ (view seat.old).list_steps + 193 }
+    ensures few_steps { (view seat.new).list_steps ≤ (view seat.old).list_steps + (3 * slot_count + 1) }
 {
     let slot = match known {
         Some(slot) => slot,
@@ -57,7 +58,7 @@ fn find_or_join<V: Part>(list: &ArenaList<V>, seat: &mut ListSeat) -> u32
     ensures hold { out (view seat.new) ≡ out (view seat.old) }
     ensures shown { shown (view seat.old) ≤ shown (view seat.new) }
     ensures some_step { (view seat.old).list_steps < (view seat.new).list_steps }
-    ensures few_steps { (view seat.new).list_steps ≤ (view seat.old).list_steps + 193 }
+    ensures few_steps { (view seat.new).list_steps ≤ (view seat.old).list_steps + (3 * slot_count + 1) }
 {
     match list.find(seat) {
         Some(slot) => slot,
@@ -90,7 +91,7 @@ pub(crate) fn space_used<V: Part>(list: &ArenaList<V>, seat: &mut ListSeat) -> u
     ensures earlier { shown (view seat.old) ≤ result }
     ensures shown { result ≡ shown (view seat.new) }
     ensures same { ((view seat.new).hands ≡ (view seat.old).hands) × ((view seat.new).base ≡ (view seat.old).base) }
-    ensures few_steps { (view seat.new).list_steps ≤ (view seat.old).list_steps + 65 }
+    ensures few_steps { (view seat.new).list_steps ≤ (view seat.old).list_steps + (slot_count + 1) }
 {
     list.sizes(seat)
 }

@@ -1,5 +1,6 @@
 //! A caller takes the value out of its slot, and gives it back.
 ghost use Rattle.std.specs.Prelude.{◌≡◌, ℕ, ◌≤◌, Some};
+ghost use Rattle.arena_list.specs.Words.{word_count};
 ghost use Rattle.arena_list.specs.declared.view.Hold.TheVariants.{Away, Rests};
 ghost use Rattle.arena_list.specs.Founded.{meter, Fits};
 ghost use Rattle.arena_list.specs.Marks.{marks, mark};
@@ -57,7 +58,7 @@ impl<V: Part> ArenaList<V> {
 
 /// Gives a value to a seat's slot, which is empty.
 pub(crate) fn put<V: Part>(words: &Words<V>, seat: &mut ListSeat, part: V)
-    requires list { (seat.old.badge.table_id ≡ words.now.table_id) × (words.now.table_id.words ≡ 592) }
+    requires list { (seat.old.badge.table_id ≡ words.now.table_id) × (words.now.table_id.words ≡ word_count) }
     requires out { IsOut (out (view seat.old)) }
     requires more { used_now marks (out (view seat.old)) ≤ V.used_of part }
     requires part { Fits (meter V.owner_of V.life_of V.used_of) words.now.key.life (who (view seat.old)) part }

@@ -2,6 +2,7 @@
 ghost use Rattle.std.specs.Prelude.{◌≡◌, ℕ, ◌+◌, ◌<◌, ◌≤◌, ◌++◌, ◌∷◌, [], Bool, true, false, Some, None, length, IsTrue};
 ghost use mathlib.Core.Option.{some};
 ghost use lib.ListN.{get_elem?};
+ghost use Rattle.arena_list.specs.Core.{slot_count};
 ghost use Rattle.arena_list.specs.Nodes.{before, head_of, node_word, Begins};
 ghost use Rattle.arena_list.specs.Marks.{marks};
 ghost use Rattle.arena_list.specs.Views.{hand};
@@ -12,6 +13,9 @@ ghost use Rattle.arena_list.specs.Seats.{view, IsSeatOf, SameList};
 use crate::list::{ArenaList, ListSeat, take_up};
 use crate::plays::{Link, Look, ReadNode, StoreNode};
 use arena_mem::Part;
+
+/// How many slots a list has, and so how many callers stand in it at most.
+pub(crate) const SLOTS: usize = 64;
 
 /// The word of the head.
 pub(crate) const HEAD: usize = 0;
@@ -47,7 +51,7 @@ impl<V: Part> ArenaList<V> {
     /// Loads the node of a slot, and answers it.
     pub(crate) fn read_node(&self, seat: &mut ListSeat, slot: u64) -> u64
         requires list { IsSeatOf self.now seat.old }
-        requires slot { slot < 64 }
+        requires slot { slot < slot_count }
         ensures list { SameList seat.old seat.new }
         ensures view { view seat.new ≡ counted (view seat.old) }
         ensures node { (k : ℕ) (n : _) → get_elem? (view seat.old).seen k ≡ some n → slot ≡ n.slot → result ≡ node_word n.caller (before (view seat.old).seen k) }

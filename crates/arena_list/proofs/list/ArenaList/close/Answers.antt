@@ -1,6 +1,7 @@
 use Rattle.std.proofs.Common.{◌≤◌, ◌++◌, ◌≡◌, length, map, reverse, sym, ap, subst, ◌∙◌, arith}
 use Rattle.std.proofs.lemmas.List.{length-reverse}
 use Rattle.std.specs.Slots.{slots_items, slots_len, IsFull}
+use Rattle.arena_list.specs.Words.{word_count}
 use Rattle.arena_list.specs.Founded.{meter}
 use Rattle.arena_list.specs.Marks.{marks}
 use Rattle.arena_list.specs.Views.{shown}
@@ -15,7 +16,7 @@ place_others-requires-clause-vacant g c = others_vacant g.row.V.coded (meter g.V
     c.close_with-closed.ensures.values.2 c.empty.ensures.parts c.empty.ensures.count c.gather-all.ensures.hands c.requires.all.enough (λ i t a. (c.requires.all.each i t a).1) c.args.self.others.items c.args.self.kept
 
 pub pull_linked-requires-clause-words : goal.pull_linked-requires-clause-words
-pull_linked-requires-clause-words g c = subst (λ w. IsFull w × (slots_len w ≡ 592)) (sym c.empty.ensures.words) (c.close_with-closed.ensures.values.0, c.close_with-closed.ensures.counts.0 ∙ c.args.self.sized.0)
+pull_linked-requires-clause-words g c = subst (λ w. IsFull w × (slots_len w ≡ word_count)) (sym c.empty.ensures.words) (c.close_with-closed.ensures.values.0, c.close_with-closed.ensures.counts.0 ∙ c.args.self.sized.0)
 
 pub pull_linked-requires-clause-stored : goal.pull_linked-requires-clause-stored
 pull_linked-requires-clause-stored g c = let e = ended g.row.V.coded (meter g.V.Part.owner_of g.V.Part.life_of g.V.Part.used_of) c.args.self.table.shared.key c.gather-all.result.id c.gather-all.result.me.0 (slots_items c.close_with-closed.result.words) (slots_items c.close_with-closed.result.slots) c.empty.new.parts.items c.args.seats.items
