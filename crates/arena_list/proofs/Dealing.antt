@@ -18,7 +18,8 @@ use Rattle.arena_list.specs.Core.{slot_count}
 use Rattle.arena_list.specs.Nodes.{node, before, head_of, HasNode, LacksNode}
 use Rattle.arena_list.specs.Views.{hand, first_hand}
 use Rattle.arena_list.specs.Founded.{Meter, AreFit, node_of, hand_for, first_view}
-use Rattle.arena_list.specs.Steps.{Sat, IsSeated, dealt, undealt, used_now, rest_of}
+use Rattle.arena_list.specs.After.{used_now}
+use Rattle.arena_list.specs.Steps.{Sat, IsSeated, dealt, undealt, rest_of}
 use Rattle.arena_list.specs.Made.{AreSeats, view_with, claimed_view}
 use Rattle.arena_list.specs.Seats.{view}
 use Rattle.arena_list.proofs.Lists.{at_below, at_end}

@@ -12,7 +12,7 @@ use Rattle.arena_list.specs.declared.founding.Founding.{Founding}
 use Rattle.arena_list.specs.declared.list.ListSeat.{ListSeat}
 use Rattle.arena_list.specs.declared.view.Node.{Node}
 use Rattle.arena_list.specs.declared.view.Hold.{Hold}
-use Rattle.arena_list.specs.declared.view.Hold.TheVariants.{Vacant, Filling, Away, Rests}
+use Rattle.arena_list.specs.declared.view.Hold.TheVariants.{Vacant, Filling, Moving, Away, Rests}
 use Rattle.arena_list.specs.declared.view.Hand.{Hand}
 use Rattle.arena_list.specs.declared.mark.Mark.{Mark}
 use Rattle.arena_list.specs.declared.view.View.{View}
@@ -71,7 +71,8 @@ module _ where
   own_among h e t = by h.hold t.0 refl t.1 where
     by : (x : Hold Mark) (i : ℕ) → h.hold ≡ x → get_elem? (own_entry (record h { hold = x })) i ≡ some e → IsOwn h e
     by Vacant i is at = absurd (some-ne-none e (sym at))
-    by (Filling used) i is at = absurd (some-ne-none e (sym at))
+    by Filling i is at = absurd (some-ne-none e (sym at))
+    by (Moving used) i is at = absurd (some-ne-none e (sym at))
     by (Away used) i is at = absurd (some-ne-none e (sym at))
     by (Rests part) zero is at = let same = some-injective (entry h.slot h.who part) e at in (ap (λ (x : Entry Mark). x.slot) (sym same), ap (λ (x : Entry Mark). x.caller) (sym same), is ∙ ap (λ (x : Entry Mark). Rests x.part) same)
     by (Rests part) (suc i) is at = absurd (some-ne-none e (sym at))
@@ -104,7 +105,8 @@ module _ where
   spares_cons_apart false h hs other d = by h.hold refl where
     by : (x : Hold Mark) → h.hold ≡ x → Differ (map slot (own_entry (record h { hold = x }) ++ spares_of hs))
     by Vacant is = d
-    by (Filling used) is = d
+    by Filling is = d
+    by (Moving used) is = d
     by (Away used) is = d
     by (Rests part) is = more where
       new : (i : ℕ) → ¬ (get_elem? (map slot (spares_of hs)) i ≡ some h.slot)

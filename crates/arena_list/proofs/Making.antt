@@ -26,7 +26,7 @@ use Rattle.arena_list.specs.declared.view.View.{View}
 use Rattle.arena_list.specs.Views.{mine, spare, out, when, unless}
 use Rattle.arena_list.specs.Views.{who as who_of}
 use Rattle.arena_list.specs.Seats.{view, IsSeatOf, IsAmong}
-use Rattle.arena_list.specs.Steps.{settled}
+use Rattle.arena_list.specs.After.{settled}
 use Rattle.arena_list.proofs.Dealing.{hand_who}
 use Rattle.arena_list.proofs.Marked.{fits_marked, fit_marked, nodes_marked}
 

@@ -12,20 +12,22 @@ use Rattle.arena_list.specs.Core.{slot_count}
 use Rattle.arena_list.specs.Nodes.{node_word}
 use Rattle.arena_list.specs.Words.{node_at, state_at}
 use Rattle.arena_list.specs.Rule.{Holds}
-use Rattle.arena_list.specs.Steps.{stored_node, took, emptied, claimed, gave, IsOut, saw_size, sized}
+use Rattle.arena_list.specs.After.{IsOut, sized, looked, counted, joined, held, settled, noted, next_link, own_node, used_now, with_seat}
+use Rattle.arena_list.specs.Steps.{stored_node, took, emptied, claimed, gave, saw_size}
 use Rattle.arena_list.specs.Founded.{Fits}
-use Rattle.arena_list.proofs.States.{takes_slot, claims, empties, gives_slot, sizes_up}
+use Rattle.arena_list.specs.Moments.{SeenGive}
+use Rattle.arena_list.proofs.States.{IsWithSeat, takes_slot, claims, empties, gives_slot, sizes_up}
 use Rattle.arena_list.proofs.Keeps.{notes}
 use Rattle.arena_list.proofs.Linking.{links}
 use Rattle.arena_list.specs.declared.view.Node.{Node}
 use Rattle.arena_list.specs.declared.view.Hold.{Hold}
-use Rattle.arena_list.specs.declared.view.Hold.TheVariants.{Filling, Away, Rests}
+use Rattle.arena_list.specs.declared.view.Hold.TheVariants.{Vacant, Filling, Moving, Away, Rests}
 use Rattle.arena_list.specs.declared.view.Hand.{Hand}
 use Rattle.arena_list.specs.declared.view.View.{View}
 use Rattle.arena_list.specs.Nodes.{node, before, head_of, Begins, HasNode, LacksNode}
 use Rattle.arena_list.specs.Views.{hand, first_hand, mine, spare, when, unless, HasSeenOwn}
 use Rattle.arena_list.specs.Founded.{Meter}
-use Rattle.arena_list.specs.Steps.{Sat, Sees, IsSeated, looked, counted, joined, held, settled, noted, next_link, own_node, used_now, saw_head, tried_link}
+use Rattle.arena_list.specs.Steps.{Sat, Sees, IsSeated, saw_head, tried_link}
 use Rattle.arena_list.proofs.Links.{before_small, head_more, has_node}
 
 -- what a list doesn't have, none has that begins it
@@ -70,13 +72,27 @@ module _ {V : Type 0} where
   unfolding first_of
   same_value l slot y part other a b is = let found : Some part ≡ y = ap (first_of None) (sym a ∙ b) in cc
 
-  pub took_out : (m : Meter V) (part : V) (slot : ℕ) (me me' : Sat V) → me' ≡ (held me.0 (Filling (m.used part)), ((hand me.0).slot, Some part) ∷ me.1) → (hand me.0).slot ≡ slot → me.1 ≡ []
-      → me' ≡ (held me.0 (Filling (m.used part)), (slot, Some part) ∷ [])
-  took_out m part slot me me' is at free = is ∙ (λ i. (held me.0 (Filling (m.used part)), (at i, Some part) ∷ free i))
+  pub took_out : (m : Meter V) (part : V) (slot : ℕ) (me me' : Sat V) → me' ≡ (held me.0 (Moving (m.used part)), ((hand me.0).slot, Some part) ∷ me.1) → (hand me.0).slot ≡ slot → me.1 ≡ []
+      → me' ≡ (held me.0 (Moving (m.used part)), (slot, Some part) ∷ [])
+  took_out m part slot me me' is at free = is ∙ (λ i. (held me.0 (Moving (m.used part)), (at i, Some part) ∷ free i))
+
+  used_with : (m : Meter V) (x : Hold V) → used_now m (with_seat x) ≡ used_now m x
+  used_with m Vacant = refl
+  used_with m Filling = refl
+  used_with m (Moving used) = refl
+  used_with m (Away used) = refl
+  used_with m (Rests part) = refl
+
+  comes_with : (x : Hold V) → IsOut x → IsWithSeat (with_seat x)
+  comes_with Vacant out = tt
+  comes_with Filling out = absurd out
+  comes_with (Moving used) out = absurd out
+  comes_with (Away used) out = tt
+  comes_with (Rests part) out = absurd out
 
   -- the view while the seat holds its slot
   abbrev pub filling : Meter V → Sat V → View V
-  filling m me = held me.0 (Filling (used_now m (hand me.0).hold))
+  filling m me = held me.0 (with_seat (hand me.0).hold)
 
   pub gave_after : (m : Meter V) (st : Step (Option V)) (r slot : ℕ) (part : V) (me me' me'' : Sat V) → me' ≡ (filling m me, (slot, Some part) ∷ []) → slot ≡ (hand me.0).slot → gave m st me' r me'' → me'' ≡ (settled m me.0 part, [])
   gave_after m st r slot part me me' me'' is at told = (told part [] (ap (λ (x : Sat V). x.1) is ∙ (λ i. (at i, Some part) ∷ []) ∙ ap (λ (x : Sat V). ((hand x.0).slot, Some part) ∷ []) (sym is))).0 ∙ ap (λ (x : Sat V). (settled m x.0 part, [])) is
@@ -85,6 +101,11 @@ module _ {V : Type 0} where
   pub gave_more : (m : Meter V) (st : Step (Option V)) (r slot : ℕ) (part : V) (me me' me'' : Sat V) → me' ≡ (filling m me, (slot, Some part) ∷ []) → slot ≡ (hand me.0).slot → gave m st me' r me'' → slice_index me.0.sizes (hand me.0).slot ≤ m.used part
   gave_more m st r slot part me me' me'' is at told = let t = (told part [] (ap (λ (x : Sat V). x.1) is ∙ (λ i. (at i, Some part) ∷ []) ∙ ap (λ (x : Sat V). ((hand x.0).slot, Some part) ∷ []) (sym is))).1 in
       let e = ap (λ (x : Sat V). slice_index x.0.sizes (hand x.0).slot) is in omega arith
+
+  -- and the step is a give
+  pub gave_seen : (m : Meter V) (st : Step (Option V)) (r slot : ℕ) (part : V) (me me' me'' : Sat V) → me' ≡ (filling m me, (slot, Some part) ∷ []) → slot ≡ (hand me.0).slot → gave m st me' r me'' → SeenGive m me.0.base (filling m me) part
+  gave_seen m st r slot part me me' me'' is at told = subst (λ (x : Sat V). SeenGive m x.0.base x.0 part) is
+      (told part [] (ap (λ (x : Sat V). x.1) is ∙ (λ i. (at i, Some part) ∷ []) ∙ ap (λ (x : Sat V). ((hand x.0).slot, Some part) ∷ []) (sym is))).2
 
 -- what a seat keeps tells that it has seen the caller's own node
 pub seen_own : {V : Type 0} (m : Meter V) {caller slot used head : ℕ} {linked : Bool} {me : Sat V} → IsSeated m caller slot linked used head me → HasSeenOwn me.0
@@ -216,19 +237,19 @@ module _ {V : Type 0} (m : Meter V) {caller slot used head : ℕ} {linked : Bool
   claimed_none me' o is = is ∙ (λ i. (filling m me, (sym o.slot_is i, None) ∷ o.free i))
 
   -- the load that gives the emptied slot back
-  pub empty_step : (k : Founding V) (slots id word : ℕ) (me' : Sat V) → IsSeated m caller slot linked used head me → linked ≡ true → me' ≡ (held me.0 (Filling used), (slot, None) ∷ []) → word ≡ 80 + 8 * slot
+  pub empty_step : (k : Founding V) (slots id word : ℕ) (me' : Sat V) → IsSeated m caller slot linked used head me → linked ≡ true → me' ≡ (held me.0 (Moving used), (slot, None) ∷ []) → word ≡ 80 + 8 * slot
       → Allows (Holds m k) slots id me' word (λ n. n) (emptied (step slots word 0 0 none) me')
   empty_step k slots id word me' o is_linked after at = subst (λ (z : ℕ × Sat V). Allows (Holds m k) slots id z.1 z.0 (λ n. n) (emptied (step slots z.0 0 0 none) z.1)) (λ i. (sym (at ∙ ap state_at o.slot_is) i, sym after i))
-      (empties m k slots id used (held me.0 (Filling used), (slot, None) ∷ []) [] refl (sym o.linked_is ∙ is_linked) refl (ap (λ (s : ℕ). (s, None) ∷ []) o.slot_is))
+      (empties m k slots id used (held me.0 (Moving used), (slot, None) ∷ []) [] refl (sym o.linked_is ∙ is_linked) refl (ap (λ (s : ℕ). (s, None) ∷ []) o.slot_is))
 
-  pub emptied_after : (st : Step (Option V)) (r : ℕ) (me' me'' : Sat V) → IsSeated m caller slot linked used head me → me' ≡ (held me.0 (Filling used), (slot, None) ∷ []) → emptied st me' r me'' → me'' ≡ (held me.0 (Away used), [])
+  pub emptied_after : (st : Step (Option V)) (r : ℕ) (me' me'' : Sat V) → IsSeated m caller slot linked used head me → me' ≡ (held me.0 (Moving used), (slot, None) ∷ []) → emptied st me' r me'' → me'' ≡ (held me.0 (Away used), [])
   emptied_after st r me' me'' o is told = told used [] (ap (λ (x : Sat V). (hand x.0).hold) is) (ap (λ (x : Sat V). x.1) is ∙ (λ i. (o.slot_is i, None) ∷ []) ∙ ap (λ (x : Sat V). ((hand x.0).slot, None) ∷ []) (sym is)) ∙ ap (λ (x : Sat V). (held x.0 (Away used), [])) is
 
   -- the store that gives the value
   pub give_step : (k : Founding V) (slots id word new : ℕ) (me' : Sat V) (part : V) → IsSeated m caller slot linked used head me → me' ≡ (filling m me, (slot, Some part) ∷ []) → used_now m (hand me.0).hold ≤ m.used part → Fits m k.life (hand me.0).who part
-      → word ≡ 80 + 8 * slot → new ≡ 2 * m.used part + 1 → Allows (Holds m k) slots id me' word (λ _. new) (λ _. gave m (step slots word new 0 none) me' new)
-  give_step k slots id word new me' part o after more fits at is = subst (λ (z : ℕ × Sat V). Allows (Holds m k) slots id z.1 z.0 (λ _. new) (λ _. gave m (step slots z.0 new 0 none) z.1 new)) (λ i. (sym (at ∙ ap state_at o.slot_is) i, sym after i))
-      (gives_slot m k slots id new (filling m me, (slot, Some part) ∷ []) part [] refl (ap (λ (s : ℕ). (s, Some part) ∷ []) o.slot_is) more fits is)
+      → word ≡ 80 + 8 * slot → new ≡ 2 * m.used part + 1 → IsOut (hand me.0).hold → Allows (Holds m k) slots id me' word (λ _. new) (λ _. gave m (step slots word new 0 none) me' new)
+  give_step k slots id word new me' part o after more fits at is out = subst (λ (z : ℕ × Sat V). Allows (Holds m k) slots id z.1 z.0 (λ _. new) (λ _. gave m (step slots z.0 new 0 none) z.1 new)) (λ i. (sym (at ∙ ap state_at o.slot_is) i, sym after i))
+      (gives_slot m k slots id new (filling m me, (slot, Some part) ∷ []) part [] refl (ap (λ (s : ℕ). (s, Some part) ∷ []) o.slot_is) (comes_with (hand me.0).hold out) (let e = used_with m (hand me.0).hold in omega arith) fits is)
 
   -- after a load of a state
   pub seated_sized : (i used' : ℕ) (me' : Sat V) → me' ≡ (sized me.0 i used', me.1) → IsSeated m caller slot linked used head me → IsSeated m caller slot linked used head me'

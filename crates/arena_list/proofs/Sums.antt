@@ -15,7 +15,8 @@ use Rattle.arena_list.specs.Nodes.{node, before, node_word, Begins}
 use Rattle.arena_list.specs.Views.{hand, out, shown, sum_seen}
 use Rattle.arena_list.specs.Founded.{Meter}
 use Rattle.arena_list.specs.Moments.{SeenList, SeenSize}
-use Rattle.arena_list.specs.Steps.{Sees, looked, counted, settled, sized, used_now}
+use Rattle.arena_list.specs.After.{looked, counted, settled, sized, used_now}
+use Rattle.arena_list.specs.Steps.{Sees}
 use Rattle.arena_list.specs.Calls.{WasShown, IsSumming, HasSummed}
 use Rattle.arena_list.proofs.Lists.{at_there, at_one, at_below, begins_itself}
 use Rattle.arena_list.proofs.Links.{before_at, before_small, past_end}

@@ -13,8 +13,9 @@ use Rattle.arena_list.specs.Core.{slot_count}
 use Rattle.arena_list.specs.Nodes.{node, before, head_of, node_word, Begins}
 use Rattle.arena_list.specs.Views.{hand, who, mine, spare, when, unless, HasSeenOwn}
 use Rattle.arena_list.specs.Founded.{Meter}
-use Rattle.arena_list.specs.Moments.{SeenList}
-use Rattle.arena_list.specs.Steps.{Sees, looked, counted, noted, own_node, joined}
+use Rattle.arena_list.specs.Moments.{SeenList, SeenJoin}
+use Rattle.arena_list.specs.After.{looked, counted, noted, own_node, joined}
+use Rattle.arena_list.specs.Steps.{Sees}
 use Rattle.arena_list.specs.Calls.{Lacks, HasFound, HasTried, HasJoined, IsWalking}
 use Rattle.arena_list.proofs.Lists.{at_below, at_there, at_one, begins_itself, begins_on, begins_more}
 use Rattle.arena_list.proofs.Links.{before_at, before_small}
@@ -146,17 +147,17 @@ module _ {V : Type 0} (v : View V) where
     base = ap (λ (x : View V). x.base) is ∙ o.base;
   }
 
-  pub tries_end : (m : Meter V) (w u : View V) (slot : ℕ) → HasTried v w → u ≡ joined (noted w) → SeenList m w.base (noted w) w.seen → (hand v).linked ≡ false → length u.seen ≤ slot_count → slot ≡ (hand v).slot → HasSeenOwn u → HasJoined m v u slot
+  pub tries_end : (m : Meter V) (w u : View V) (slot : ℕ) → HasTried v w → u ≡ joined (noted w) → SeenJoin m w.base (noted w) → (hand v).linked ≡ false → length u.seen ≤ slot_count → slot ≡ (hand v).slot → HasSeenOwn u → HasJoined m v u slot
   tries_end m w u slot o is seen spare few at seen_own = let steps : u.list_steps ≡ w.list_steps + 1 + 1 = ap (λ (x : View V). x.list_steps) is in
       let long : length u.seen ≡ length w.seen + 1 = ap (λ (x : View V). length x.seen) is ∙ length-append w.seen (node (hand w).slot (hand w).who ∷ []) in
       -- the list of that moment has no node of the seat's caller, who has a spare
-      let own = (own_hand m w.base seen.state seen.moment.rule seen.id (noted w) seen.moment.stands refl).1 in
+      let own = (own_hand m w.base seen.moment.before seen.moment.rule seen.moment.id (noted w) seen.moment.stands refl).1 in
       let no_node : Lacks w.seen (who v) = (λ k n e c. own.spare (o.linked ∙ spare) k n (ap (λ (l : List Node). get_elem? l k) seen.nodes_are ∙ e) (c ∙ sym o.who_is)) in record {
         was_spare = ap (λ (b : Bool). unless b (hand v).slot) spare ∙ ap Some (sym at);
         mine_is = ap (λ (x : View V). mine x) is ∙ ap Some (o.slot ∙ sym at);
         own = seen_own;
         appended = (w.seen, o.seen, no_node, ap (λ (x : View V). x.seen) is ∙ (λ i. w.seen ++ node ((o.slot ∙ sym at) i) (o.who_is i) ∷ []));
-        looked = (noted w, is, seen);
+        moment = (noted w, is, seen);
         steps = (let a = o.steps in omega arith);
         some_steps = (let a = o.more_steps in omega arith);
         few_steps = (let a = o.steps in omega arith);

@@ -7,26 +7,21 @@ use mathlib.Core.Option.{some, some-ne-none}
 use lib.ListN.{get_elem?}
 use base.Stored.{Coded}
 use Rattle.arena_list.specs.declared.entry.Entry.{Entry}
-use Rattle.arena_list.specs.declared.founding.Founding.{Founding}
 use Rattle.arena_list.specs.declared.list.ListSeat.{ListSeat}
 use Rattle.arena_list.specs.declared.list.ArenaList.{ArenaList}
 use Rattle.arena_list.specs.declared.mark.Mark.{Mark}
 use Rattle.arena_list.specs.declared.view.Hand.{Hand}
 use Rattle.arena_list.specs.Core.{slot_count}
 use Rattle.arena_list.specs.Founded.{Meter, Differ, AreFit, Fits, has, slot, caller}
-use Rattle.arena_list.specs.Made.{IsMadeOf, AreFirst}
-use Rattle.arena_list.specs.Views.{first_hand, who, out, HasSeenOwn}
-use Rattle.arena_list.specs.Marks.{marks, mark, marked_founding}
-use Rattle.arena_list.specs.declared.view.View.{View}
+use Rattle.arena_list.specs.Made.{AreFirst}
+use Rattle.arena_list.specs.Views.{first_hand, HasSeenOwn}
+use Rattle.arena_list.specs.Marks.{marks}
 use Rattle.arena_list.specs.Seats.{view, callers_of, SameList, IsHome}
 use Rattle.arena_list.specs.Closed.{AreAll}
 use Rattle.arena_list.proofs.Few.{or_at, at_mapped}
 use Rattle.arena_list.proofs.Lists.{at_below, at_there, at_end, same_elements, all_kept}
 use Rattle.arena_list.proofs.Seats.{at_append}
-use Rattle.arena_list.proofs.Opening.{has_at, entry_at}
-use Rattle.arena_list.proofs.Dealing.{hand_who}
-use Rattle.arena_list.proofs.Marked.{fits_marked, fit_marked}
-use Rattle.arena_list.proofs.Making.{fit_as}
+use Rattle.arena_list.proofs.Opening.{has_at}
 use Rattle.arena_list.proofs.SeatFacts.{seen_own}
 
 -- spare entries for callers 4, 7, 10 and on, in slots 0, 1, 2 and on

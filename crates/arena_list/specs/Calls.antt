@@ -5,11 +5,11 @@ use lib.ListN.{get_elem?}
 use Rattle.arena_list.specs.declared.view.Node.{Node}
 use Rattle.arena_list.specs.declared.view.View.{View}
 use Rattle.arena_list.specs.Core.{slot_count}
-use Rattle.arena_list.specs.Nodes.{node, before, Begins, HasNode}
+use Rattle.arena_list.specs.Nodes.{node, before, Begins}
 use Rattle.arena_list.specs.Views.{hand, who, mine, spare, out, shown, sum_seen, HasSeenOwn}
 use Rattle.arena_list.specs.Founded.{Meter}
-use Rattle.arena_list.specs.Moments.{SeenList, SeenSize}
-use Rattle.arena_list.specs.Steps.{joined, used_now}
+use Rattle.arena_list.specs.Moments.{SeenList, SeenJoin, SeenSize}
+use Rattle.arena_list.specs.After.{joined, used_now}
 
 -- no node of the caller stands in the list
 abbrev pub Lacks : List Node → ℕ → Type 0
@@ -66,7 +66,7 @@ module _ {V : Type 0} where
     pub own : HasSeenOwn w
     pub appended : (nodes : List Node) × Begins v.seen nodes × Lacks nodes (who v) × (w.seen ≡ nodes ++ node slot (who v) ∷ [])
     -- the list had the nodes before it when the exchange appended it
-    pub looked : (u : View V) × (w ≡ joined u) × SeenList m u.base u u.seen
+    pub moment : (u : View V) × (w ≡ joined u) × SeenJoin m u.base u
     -- two steps for each exchange, of which each that failed showed a longer list
     pub steps : w.list_steps + 2 * length v.seen ≤ v.list_steps + 2 * length w.seen
     pub some_steps : v.list_steps + 2 ≤ w.list_steps

@@ -1,5 +1,5 @@
 -- What closing a list works with, and what it gives.
-use Rattle.std.specs.Prelude.{◌≡◌, ◌⊎◌, ℕ, ◌+◌, ◌<◌, ◌≤◌, true, List, [], ◌∷◌, ◌++◌, Option, Some, length, map, slice_index, if◌then◌else◌}
+use Rattle.std.specs.Prelude.{◌≡◌, ◌⊎◌, ℕ, ◌+◌, ◌<◌, ◌≤◌, List, [], ◌∷◌, ◌++◌, Option, Some, length, map, slice_index, if◌then◌else◌}
 use mathlib.Core.Option.{some}
 use lib.ListN.{get_elem?}
 use base.Stored.{Coded}
@@ -8,7 +8,7 @@ use Rattle.arena_list.specs.declared.list.ArenaList.{ArenaList}
 use Rattle.arena_list.specs.declared.list.ListSeat.{ListSeat}
 use Rattle.arena_list.specs.declared.view.Node.{Node}
 use Rattle.arena_list.specs.declared.view.Hold.{Hold}
-use Rattle.arena_list.specs.declared.view.Hold.TheVariants.{Vacant, Filling, Away, Rests}
+use Rattle.arena_list.specs.declared.view.Hold.TheVariants.{Vacant, Filling, Moving, Away, Rests}
 use Rattle.arena_list.specs.declared.view.Hand.{Hand}
 use Rattle.arena_list.specs.declared.mark.Mark.{Mark}
 use Rattle.arena_list.specs.declared.view.View.{View}
@@ -34,7 +34,8 @@ module _ {V : Type 0} where
   -- the value, where it rests
   abbrev pub rested : Hold V → List V
   rested Vacant = []
-  rested (Filling used) = []
+  rested Filling = []
+  rested (Moving used) = []
   rested (Away used) = []
   rested (Rests part) = part ∷ []
 

@@ -14,7 +14,7 @@ use Rattle.arena_list.specs.Core.{slot_count}
 use Rattle.arena_list.specs.Founded.{Meter, entry_of, hand_for, node_of, others_of}
 use Rattle.arena_list.specs.Marks.{marks, mark, marked_founding}
 use Rattle.arena_list.specs.Views.{who, mine, spare, HasSeenOwn}
-use Rattle.arena_list.specs.Steps.{settled}
+use Rattle.arena_list.specs.After.{settled}
 use Rattle.arena_list.specs.declared.list.ArenaList.{ArenaList}
 use Rattle.arena_list.specs.Seats.{view, life_of, founding_of, callers_of, wards_of, IsSeatOf, IsAmong, HasValue, RestsIn}
 

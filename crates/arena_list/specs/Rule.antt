@@ -8,7 +8,7 @@ use Rattle.arena_list.specs.declared.entry.Entry.{Entry}
 use Rattle.arena_list.specs.declared.founding.Founding.{Founding}
 use Rattle.arena_list.specs.declared.view.Node.{Node}
 use Rattle.arena_list.specs.declared.view.Hold.{Hold}
-use Rattle.arena_list.specs.declared.view.Hold.TheVariants.{Vacant, Filling, Away, Rests}
+use Rattle.arena_list.specs.declared.view.Hold.TheVariants.{Vacant, Filling, Moving, Away, Rests}
 use Rattle.arena_list.specs.declared.view.Hand.{Hand}
 use Rattle.arena_list.specs.declared.view.View.{View}
 use Rattle.arena_list.specs.Nodes.{node, node_word, Begins}
@@ -26,10 +26,11 @@ module _ {V : Type 0} where
   hand_count v = length v.hands
 
   -- Where the value of a slot is. A value at home has its caller as owner, this list's life and the used sum that the state shows.
-  -- Only the value of a slot of the list is out. A slot is with its seat within a call alone
+  -- Only the value of a slot of the list is out, but for the first filling of each slot. A slot is with its seat within a call alone
   abbrev pub HoldsAt : Meter V → ℕ → Core → List (maybe.Option (Option V)) → Hand V → Hold V → Type 0
   HoldsAt m life c homes h Vacant = (c.standing h.slot ≡ away 0) × (get_elem? homes h.slot ≡ some (some None))
-  HoldsAt m life c homes h (Filling used) = c.standing h.slot ≡ away used
+  HoldsAt m life c homes h Filling = c.standing h.slot ≡ away 0
+  HoldsAt m life c homes h (Moving used) = (c.standing h.slot ≡ away used) × (h.linked ≡ true)
   HoldsAt m life c homes h (Away used) = (c.standing h.slot ≡ away used) × (get_elem? homes h.slot ≡ some (some None)) × (h.linked ≡ true)
   HoldsAt m life c homes h (Rests part) = (c.standing h.slot ≡ rests (m.used part)) × (get_elem? homes h.slot ≡ some (some (Some part))) × Fits m life h.who part
 

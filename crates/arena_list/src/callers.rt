@@ -8,7 +8,7 @@ ghost use Rattle.arena_list.specs.declared.view.Hold.TheVariants.{Away};
 ghost use Rattle.arena_list.specs.Founded.{meter, AreFit, Fits};
 ghost use Rattle.arena_list.specs.Marks.{marks};
 ghost use Rattle.arena_list.specs.Views.{who, mine, spare, out, shown};
-ghost use Rattle.arena_list.specs.Steps.{used_now};
+ghost use Rattle.arena_list.specs.After.{used_now};
 ghost use Rattle.arena_list.specs.Seats.{view, life_of, callers_of, wards_of, IsSeatOf, SameList, IsAmong, HasValue};
 ghost use Rattle.arena_list.specs.Closed.{Rested, IsJoined, used_sum};
 

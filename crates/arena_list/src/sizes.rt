@@ -3,7 +3,7 @@ ghost use Rattle.std.specs.Prelude.{◌≡◌, ◌^◌, ◌<◌, ◌≤◌, slic
 ghost use Rattle.arena_list.specs.Core.{slot_count};
 ghost use Rattle.arena_list.specs.Marks.{marks};
 ghost use Rattle.arena_list.specs.Views.{hand, out};
-ghost use Rattle.arena_list.specs.Steps.{sized, used_now};
+ghost use Rattle.arena_list.specs.After.{sized, used_now};
 ghost use Rattle.arena_list.specs.Moments.{SeenSize};
 ghost use Rattle.arena_list.specs.Calls.{HasSummed};
 ghost use Rattle.arena_list.specs.Seats.{view, IsSeatOf, SameList};

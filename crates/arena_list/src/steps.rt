@@ -6,8 +6,9 @@ ghost use Rattle.arena_list.specs.Core.{slot_count};
 ghost use Rattle.arena_list.specs.Nodes.{before, head_of, node_word, Begins};
 ghost use Rattle.arena_list.specs.Marks.{marks};
 ghost use Rattle.arena_list.specs.Views.{hand};
-ghost use Rattle.arena_list.specs.Moments.{SeenList};
-ghost use Rattle.arena_list.specs.Steps.{Sees, counted, looked, noted, joined};
+ghost use Rattle.arena_list.specs.Moments.{SeenList, SeenJoin};
+ghost use Rattle.arena_list.specs.After.{counted, looked, noted, joined};
+ghost use Rattle.arena_list.specs.Steps.{Sees};
 ghost use Rattle.arena_list.specs.Seats.{view, IsSeatOf, SameList};
 
 use crate::list::{ArenaList, ListSeat, take_up};
@@ -68,7 +69,7 @@ impl<V: Part> ArenaList<V> {
         requires list { IsSeatOf self.now seat.old }
         requires spare { (hand (view seat.old)).linked ≡ false }
         ensures list { SameList seat.old seat.new }
-        ensures linked { IsTrue result → (view seat.new ≡ joined (noted (view seat.old))) × SeenList marks (view seat.old).base (noted (view seat.old)) (view seat.old).seen }
+        ensures linked { IsTrue result → (view seat.new ≡ joined (noted (view seat.old))) × SeenJoin marks (view seat.old).base (noted (view seat.old)) }
         ensures longer { result ≡ false → (view seat.new ≡ looked (noted (view seat.old)) (view seat.new).seen) × Begins (view seat.old).seen (view seat.new).seen × (length (view seat.old).seen < length (view seat.new).seen) }
     {
         let words = &self.table.shared;

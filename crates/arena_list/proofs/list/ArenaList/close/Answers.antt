@@ -1,9 +1,8 @@
-use Rattle.std.proofs.Common.{◌≤◌, ◌++◌, ◌≡◌, length, map, reverse, sym, ap, subst, ◌∙◌, arith}
+use Rattle.std.proofs.Common.{◌≤◌, ◌++◌, ◌≡◌, length, reverse, sym, ap, subst, ◌∙◌, arith}
 use Rattle.std.proofs.lemmas.List.{length-reverse}
 use Rattle.std.specs.Slots.{slots_items, slots_len, IsFull}
 use Rattle.arena_list.specs.Words.{word_count}
 use Rattle.arena_list.specs.Founded.{meter}
-use Rattle.arena_list.specs.Marks.{marks}
 use Rattle.arena_list.specs.Views.{shown}
 use Rattle.arena_list.specs.Seats.{view, founding_of, wards_of}
 use Rattle.arena_list.specs.Closed.{used_sum, AreApart, AreLinked, AreSpares, slots_of}
