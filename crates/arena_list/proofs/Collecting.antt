@@ -8,9 +8,11 @@ use lib.ListN.{get_elem?}
 use Rattle.atomic_table.proofs.Lists.{set_here, set_else, at_set, drop_at}
 use Rattle.arena_list.specs.declared.entry.Entry.{Entry}
 use Rattle.arena_list.specs.declared.view.Node.{Node}
+use Rattle.arena_list.specs.Core.{slot_count}
 use Rattle.arena_list.specs.Nodes.{before, head_of, node_word}
 use Rattle.arena_list.specs.Founded.{Differ, slot, node_of}
-use Rattle.arena_list.specs.Closed.{entry, IsAmong}
+use Rattle.arena_list.specs.Closed.{entry}
+use Rattle.arena_list.specs.Seats.{IsAmong}
 use Rattle.arena_list.specs.Collected.{place_of, AreIn, AreStored, Fills, Empties}
 use Rattle.arena_list.proofs.Lists.{at_below, at_there, at_more, at_end}
 use Rattle.arena_list.proofs.Links.{before_at, before_small}
@@ -107,8 +109,8 @@ module _ {V : Type 0} where
     pub emptied : Empties old now (drop left es)
 
   module _ (words : List ℕ) (old : List (Option V)) (es : List (Entry V)) (st : AreStored words old es) where
-    node_small : (i : ℕ) (n : Node) → get_elem? (map node_of es) i ≡ some n → n.slot < 64
-    node_small i n at = let p = at_mapped node_of es i n at in subst (λ (n : Node). n.slot < 64) p.2 (st.small i p.0 p.1)
+    node_small : (i : ℕ) (n : Node) → get_elem? (map node_of es) i ≡ some n → n.slot < slot_count
+    node_small i n at = let p = at_mapped node_of es i n at in subst (λ (n : Node). n.slot < slot_count) p.2 (st.small i p.0 p.1)
 
     pub take_starts : (head : ℕ) (taken : List (Entry V)) → get_elem? words 0 ≡ some head → taken ≡ [] → IsTaking es old old taken (head / 2 ^ 32) (head % 2 ^ 32)
     take_starts head taken at none = let is : head ≡ head_of (map node_of es) = sym (or_at words 0 0 head at) ∙ st.head in let b = before_small (map node_of es) node_small (length (map node_of es)) in let n = len_map node_of es in
@@ -121,7 +123,7 @@ module _ {V : Type 0} where
 
     module _ (now : List (Option V)) (taken : List (Entry V)) (left link : ℕ) (o : IsTaking es old now taken left link) (more : 0 < left) where
       -- the entry to come, whose value is still there
-      pub take_next : (e : Entry V) × (get_elem? es (left - 1) ≡ some e) × (link ≡ e.slot + 1) × (e.slot < 64) × (get_elem? now e.slot ≡ some (Some e.part))
+      pub take_next : (e : Entry V) × (get_elem? es (left - 1) ≡ some e) × (link ≡ e.slot + 1) × (e.slot < slot_count) × (get_elem? now e.slot ≡ some (Some e.part))
       take_next = let t = at_there es (left - 1) (let a = o.within in omega arith) in let e = t.0 in let n = at_map node_of es (left - 1) e t.1 in
           let link_is : link ≡ e.slot + 1 = o.link_is ∙ ap (before (map node_of es)) (let z : left ≡ suc (left - 1) = omega arith in z) ∙ before_at (map node_of es) (left - 1) (node_of e) n in
           let apart : (i : ℕ) (f : Entry V) → get_elem? (drop left es) i ≡ some f → f.slot ≢ e.slot = λ i f at. λ same. let one = once es st.values.apart (left + i) (left - 1) f e (at_drop es left i f at) t.1 same in absurd (omega arith) in
@@ -158,7 +160,7 @@ module _ {V : Type 0} where
         (ap reverse o.items ∙ reverse-reverse (drop left es) ∙ all, subst (Empties old now) all o.emptied)
 
     -- so many entries are taken, and there is room for one more
-    pub take_room : (now : List (Option V)) (taken : List (Entry V)) (left link : ℕ) → IsTaking es old now taken left link → length taken + left ≤ 64
+    pub take_room : (now : List (Option V)) (taken : List (Entry V)) (left link : ℕ) → IsTaking es old now taken left link → length taken + left ≤ slot_count
     take_room now taken left link o = let a = ap length o.items ∙ length-reverse (drop left es) in let b = length-drop left es in let f = st.few in let w = o.within in omega arith
 
   -- ---- the spares

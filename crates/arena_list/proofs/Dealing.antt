@@ -14,10 +14,12 @@ use Rattle.arena_list.specs.declared.view.Hold.TheVariants.{Vacant}
 use Rattle.arena_list.specs.declared.view.Hold.{Hold}
 use Rattle.arena_list.specs.declared.view.Hand.{Hand}
 use Rattle.arena_list.specs.declared.view.View.{View}
+use Rattle.arena_list.specs.Core.{slot_count}
 use Rattle.arena_list.specs.Nodes.{node, before, head_of, HasNode, LacksNode}
 use Rattle.arena_list.specs.Views.{hand, first_hand}
 use Rattle.arena_list.specs.Founded.{Meter, AreFit, node_of, hand_for, first_view}
-use Rattle.arena_list.specs.Steps.{Sat, IsSeated, dealt, undealt, used_now, rest_of}
+use Rattle.arena_list.specs.After.{used_now}
+use Rattle.arena_list.specs.Steps.{Sat, IsSeated, dealt, undealt, rest_of}
 use Rattle.arena_list.specs.Made.{AreSeats, view_with, claimed_view}
 use Rattle.arena_list.specs.Seats.{view}
 use Rattle.arena_list.proofs.Lists.{at_below, at_end}
@@ -62,12 +64,12 @@ module _ {V : Type 0} (m : Meter V) (k : Founding V) (fit : AreFit m k.life k.li
   pub hand_vacant : (hand_for k c).hold ≡ Vacant
   hand_vacant = ⊎_elim (λ t. ap (λ (h : Hand V). h.hold) t.4) (λ t. ap (λ (h : Hand V). h.hold) t.4) (entry_for m k fit i c at)
 
-  hand_small : (hand_for k c).slot < 64
-  hand_small = ⊎_elim (λ t. subst (λ (h : Hand V). h.slot < 64) (sym t.4) (linked_small m k.life k.linked.items k.spare.items k.callers.items fit t.0 t.1 t.2))
-      (λ t. subst (λ (h : Hand V). h.slot < 64) (sym t.4) (fit.small (length k.linked.items + t.0) t.1 (at_behind k.linked.items k.spare.items t.0 t.1 t.2)))
+  hand_small : (hand_for k c).slot < slot_count
+  hand_small = ⊎_elim (λ t. subst (λ (h : Hand V). h.slot < slot_count) (sym t.4) (linked_small m k.life k.linked.items k.spare.items k.callers.items fit t.0 t.1 t.2))
+      (λ t. subst (λ (h : Hand V). h.slot < slot_count) (sym t.4) (fit.small (length k.linked.items + t.0) t.1 (at_behind k.linked.items k.spare.items t.0 t.1 t.2)))
       (entry_for m k fit i c at)
 
-  hand_fewer : (hand_for k c).linked ≡ false → length k.linked.items < 64
+  hand_fewer : (hand_for k c).linked ≡ false → length k.linked.items < slot_count
   hand_fewer is = ⊎_elim (λ t. absurd (false≢true (sym is ∙ ap (λ (h : Hand V). h.linked) t.4)))
       (λ t. let a = all_few m k.life k.linked.items k.spare.items k.callers.items fit in let b = at_below k.spare.items t.0 t.1 t.2 in omega arith)
       (entry_for m k fit i c at)
@@ -90,12 +92,12 @@ module _ {V : Type 0} (m : Meter V) (k : Founding V) (fit : AreFit m k.life k.li
         linked_is = linked_is ∙ ap (λ (x : Sat V). (hand x.0).linked) back;
         used_is = ap (used_now m) (sym hand_vacant) ∙ ap (λ (x : Sat V). used_now m (hand x.0).hold) back;
         head_is = head_is ∙ ap (λ (x : Sat V). head_of x.0.seen) back;
-        slot_small = subst (λ (n : ℕ). n < 64) (sym slot_is) hand_small;
+        slot_small = subst (λ (n : ℕ). n < slot_count) (sym slot_is) hand_small;
         used_small = omega arith;
-        link_small = subst (λ (x : Sat V). before x.0.seen (length x.0.seen) ≤ 64) back (linked_before m k.life k.linked.items k.spare.items k.callers.items fit (length (map node_of k.linked.items)));
+        link_small = subst (λ (x : Sat V). before x.0.seen (length x.0.seen) ≤ slot_count) back (linked_before m k.life k.linked.items k.spare.items k.callers.items fit (length (map node_of k.linked.items)));
         own = λ e. subst (λ (x : Sat V). ¬ LacksNode x.0.seen slot c) back (λ none. let has = hand_seen slot slot_is (sym linked_is ∙ e) in none has.0 has.1);
-        few = subst (λ (x : Sat V). length x.0.seen ≤ 64) back (omega arith);
-        fewer = λ e. subst (λ (x : Sat V). length x.0.seen < 64) back (let f = hand_fewer (sym linked_is ∙ e) in omega arith);
+        few = subst (λ (x : Sat V). length x.0.seen ≤ slot_count) back (omega arith);
+        fewer = λ e. subst (λ (x : Sat V). length x.0.seen < slot_count) back (let f = hand_fewer (sym linked_is ∙ e) in omega arith);
         free = ap (λ (x : Sat V). x.1) all;
       }
 

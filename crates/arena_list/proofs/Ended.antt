@@ -12,18 +12,22 @@ use Rattle.arena_list.specs.declared.list.ListSeat.{ListSeat}
 use Rattle.arena_list.specs.declared.mark.Mark.{Mark}
 use Rattle.arena_list.specs.declared.view.Node.{Node}
 use Rattle.arena_list.specs.declared.view.View.{View}
+use Rattle.arena_list.specs.Core.{slot_count}
 use Rattle.arena_list.specs.Nodes.{before, head_of, node_word, Begins}
-use Rattle.arena_list.specs.Views.{shown}
+use Rattle.arena_list.specs.declared.view.Hand.{Hand}
+use Rattle.arena_list.specs.declared.view.Hold.TheVariants.{Rests}
+use Rattle.arena_list.specs.Views.{who, shown}
 use Rattle.arena_list.specs.Founded.{Meter, Fits, Differ, node_of, others_of}
-use Rattle.arena_list.specs.Seats.{view}
+use Rattle.arena_list.specs.Seats.{view, IsAmong}
 use Rattle.arena_list.specs.Marks.{marks, mark, marked, marked_entry, marked_founding, HoldsSeen}
-use Rattle.arena_list.specs.Closed.{HasTold, AreAtMost, used_sum, AreLinked, AreApart, entry, spares_of, slots_of, hand_of, IsAmong, Rested}
+use Rattle.arena_list.specs.Closed.{HasTold, AreAtMost, used_sum, AreLinked, AreSpares, AreApart, entry, spares_of, slots_of, hand_of, Rested}
 use Rattle.arena_list.specs.Collected.{place_of, AreIn, AreStored, Fills, Empties}
 use Rattle.arena_list.proofs.Few.{at_map, at_mapped, len_map}
 use Rattle.arena_list.proofs.Marked.{map_after, slots_marked, callers_marked, nodes_marked, others_marked, final_seen}
-use Rattle.arena_list.proofs.Ending.{Ends, ends, slots_are}
+use Rattle.arena_list.proofs.Ending.{Ends, ends, count, slots_are, spare_from, spare_there}
 use Rattle.arena_list.proofs.Ending.{others_vacant as marks_vacant}
 use Rattle.arena_list.proofs.Badges.{some_one}
+use Rattle.arena_list.proofs.SeatFacts.{mine_tells, mine_is, spare_tells, spare_is}
 
 mapped : {A B : Type 0} → (A → B) → maybe.Option A → maybe.Option B
 mapped f maybe.none = maybe.none
@@ -127,17 +131,19 @@ module _ {V : Type 0} (c : Coded V) (m : Meter V) where
 pub record Ended {V : Type 0} (c : Coded V) (m : Meter V) (k : Founding V) (v : View Mark) (seats : List ListSeat) (words : List ℕ) (filled : List (Option V)) : Type 0 where
   pub entries : List (Entry V)
   pub stored : (words' : List ℕ) → words' ≡ words → AreStored words' filled entries
-  pub linked : ((i : ℕ) (t : ListSeat) → get_elem? seats i ≡ some t → HasTold v (view t).seen) → AreLinked (mark c m) (others_of k.linked.items k.callers.items) k.linked.items seats entries
+  pub count : length seats ≡ length k.callers.items
+  pub linked : ((i : ℕ) (t : ListSeat) → get_elem? seats i ≡ some t → HasTold v (view t).seen) → AreLinked c m (others_of k.linked.items k.callers.items) k.linked.items seats entries
   pub used : ((i : ℕ) (t : ListSeat) → get_elem? seats i ≡ some t → HasTold v (view t).seen) → ((i : ℕ) (t : ListSeat) → get_elem? seats i ≡ some t → AreAtMost (view t).sizes v.sizes)
       → (i : ℕ) (t : ListSeat) → get_elem? seats i ≡ some t → shown (view t) ≤ used_sum m entries
   pub apart : (spare : List (Entry V)) → map (marked_entry c m) spare ≡ spares_of (map hand_of seats) → AreApart m k.life (entries ++ spare)
   -- the spare entries, with the values that are left when those of the list are out
   pub spares : (rest : List (Option V)) → Empties filled rest entries → (spare : List (Entry V)) × (map (marked_entry c m) spare ≡ spares_of (map hand_of seats)) × (slots_of seats ≡ map place_of spare) × AreIn rest spare
+  pub spares_are : (spare : List (Entry V)) → map (marked_entry c m) spare ≡ spares_of (map hand_of seats) → AreSpares c m seats spare
   pub none_left : (rest left : List (Option V)) (spare : List (Entry V)) → Empties filled rest entries → map (marked_entry c m) spare ≡ spares_of (map hand_of seats) → Empties rest left spare → (i : ℕ) (x : Option V) → get_elem? left i ≡ some x → x ≡ None
 
 module _ {V : Type 0} (c : Coded V) (m : Meter V) (k : Founding V) (id : ℕ) (v : View Mark) (words : List ℕ) (slots parts : List (Option V)) (seats : List ListSeat) (final : Final (Seen (HoldsSeen c m k) id v) words slots)
-    (taken : (i : ℕ) (x : Option V) → get_elem? parts i ≡ some x → get_elem? slots i ≡ some x) (long : length parts ≡ 64)
-    (hands : v.hands ≡ reverse (map hand_of seats)) (count : length seats ≡ length k.callers.items) (rested : (i : ℕ) (t : ListSeat) → get_elem? seats i ≡ some t → Rested t) where
+    (taken : (i : ℕ) (x : Option V) → get_elem? parts i ≡ some x → get_elem? slots i ≡ some x) (long : length parts ≡ slot_count)
+    (hands : v.hands ≡ reverse (map hand_of seats)) (enough : length k.callers.items ≤ length seats) (rested : (i : ℕ) (t : ListSeat) → get_elem? seats i ≡ some t → Rested t) where
   abbrev key : Founding Mark
   key = marked_founding c m k
 
@@ -151,11 +157,11 @@ module _ {V : Type 0} (c : Coded V) (m : Meter V) (k : Founding V) (id : ℕ) (v
     -- the slots of other callers' entries are empty
     pub others_vacant : (j : ℕ) (e : Entry V) → get_elem? entries j ≡ some e → get_elem? parts e.slot ≡ some None
     others_vacant j e at = none_there c m parts e.slot
-        (marks_vacant marks key id v words (map (f c m) slots) (map (f c m) parts) seats (final_seen c m k id v words slots final) taken_marked (len_map (f c m) parts ∙ long) hands count rested (map (me c m) entries) is_marked j (me c m e) (at_map (me c m) entries j e at))
+        (marks_vacant marks key id v words (map (f c m) slots) (map (f c m) parts) seats (final_seen c m k id v words slots final) taken_marked (len_map (f c m) parts ∙ long) hands enough rested (map (me c m) entries) is_marked j (me c m e) (at_map (me c m) entries j e at))
 
     module _ (filled : List (Option V)) (fills : Fills parts filled entries) where
       of_marks : Ends marks key v seats words (map (f c m) filled)
-      of_marks = ends marks key id v words (map (f c m) slots) (map (f c m) parts) seats (final_seen c m k id v words slots final) taken_marked (len_map (f c m) parts ∙ long) hands count rested (map (f c m) filled) (map (me c m) entries) is_marked (fills_marked c m parts filled entries fills)
+      of_marks = ends marks key id v words (map (f c m) slots) (map (f c m) parts) seats (final_seen c m k id v words slots final) taken_marked (len_map (f c m) parts ∙ long) hands enough rested (map (f c m) filled) (map (me c m) entries) is_marked (fills_marked c m parts filled entries fills)
 
       all_pulled : (rs : List (Entry V)) × (map (me c m) rs ≡ of_marks.entries)
       all_pulled = pulled_entries c m filled of_marks.entries (of_marks.stored words refl).values.there
@@ -173,14 +179,41 @@ module _ {V : Type 0} (c : Coded V) (m : Meter V) (k : Founding V) (id : ℕ) (v
       others_are : others_of key.linked.items key.callers.items ≡ map (me c m) (others_of k.linked.items k.callers.items)
       others_are = others_marked c m k.linked.items k.callers.items
 
-      linked_are : ((i : ℕ) (t : ListSeat) → get_elem? seats i ≡ some t → HasTold v (view t).seen) → AreLinked (mark c m) (others_of k.linked.items k.callers.items) k.linked.items seats all_entries
+      -- an entry that stands among the marks
+      found : (e : Entry Mark) → IsAmong of_marks.entries e → (a : Entry V) × IsAmong all_entries a × (me c m a ≡ e)
+      found e t = let p = at_mapped (me c m) all_entries t.0 e (ap (λ (es : List (Entry Mark)). get_elem? es t.0) entries_are ∙ t.1) in (p.0, (t.0, p.1), p.2)
+
+      linked_are : ((i : ℕ) (t : ListSeat) → get_elem? seats i ≡ some t → HasTold v (view t).seen) → AreLinked c m (others_of k.linked.items k.callers.items) k.linked.items seats all_entries
       linked_are told = let l = of_marks.linked told in let there = sym entries_are in record {
-        known = λ e t. ⊎_elim (λ x. inl x) (λ x. inr (among_back c m (others_of k.linked.items k.callers.items) e (subst (λ (es : List (Entry Mark)). IsAmong es (me c m e)) others_are x)))
+        known = λ e t. ⊎_elim (λ x. let own = x.4 in inl (x.0, x.1, x.2, record { slot_is = mine_is (view x.1) e.slot x.3 own.0; caller_is = sym own.1; value = own.2 }))
+            (λ x. inr (among_back c m (others_of k.linked.items k.callers.items) e (subst (λ (es : List (Entry Mark)). IsAmong es (me c m e)) others_are x)))
             (l.known (me c m e) (subst (λ (es : List (Entry Mark)). IsAmong es (me c m e)) entries_are (among_marked c m all_entries e t)));
-        joined = λ e t. among_back c m all_entries e (subst (λ (es : List (Entry Mark)). IsAmong es (me c m e)) there (l.joined (me c m e) t));
-        others = λ e t. among_back c m all_entries e (subst (λ (es : List (Entry Mark)). IsAmong es (me c m e)) there (l.others (me c m e) (subst (λ (es : List (Entry Mark)). IsAmong es (me c m e)) (sym others_are) (among_marked c m (others_of k.linked.items k.callers.items) e t))));
+        joined = λ i s slot at own. let o = mine_tells (view s) slot own in let r = rested i s at in
+            let f = found (entry slot (who (view s)) r.0) (l.joined (entry slot (who (view s)) r.0) (i, s, at, o.0, (sym o.1, refl, r.1))) in
+            (f.0, f.1, record { slot_is = own ∙ ap (λ (e : Entry Mark). Some e.slot) (sym f.2); caller_is = ap (λ (e : Entry Mark). e.caller) (sym f.2); value = r.1 ∙ ap (λ (e : Entry Mark). Rests e.part) (sym f.2) });
+        valued = λ i s slot part at own value. let o = mine_tells (view s) slot own in among_back c m all_entries (entry slot (who (view s)) part)
+            (subst (λ (es : List (Entry Mark)). IsAmong es (entry slot (who (view s)) (mark c m part))) there (l.joined (entry slot (who (view s)) (mark c m part)) (i, s, at, o.0, (sym o.1, refl, value))));
+        wards_are = λ e t. among_back c m all_entries e (subst (λ (es : List (Entry Mark)). IsAmong es (me c m e)) there (l.wards_are (me c m e) (subst (λ (es : List (Entry Mark)). IsAmong es (me c m e)) (sym others_are) (among_marked c m (others_of k.linked.items k.callers.items) e t))));
         seen = λ i t a. subst (Begins (view t).seen) (ap (map node_of) there ∙ nodes_marked c m all_entries) (l.seen i t a);
         founded = subst (λ (x : List Node × List Node). Begins x.0 x.1) (λ i. (nodes_marked c m k.linked.items i, (ap (map node_of) there ∙ nodes_marked c m all_entries) i)) l.founded;
+      }
+
+      spares_are : (es : List (Entry V)) → map (me c m) es ≡ spares_of (map hand_of seats) → AreSpares c m seats es
+      spares_are es is = record {
+        known = λ e t. let p = spare_from (map hand_of seats) (me c m e) (subst (λ (l : List (Entry Mark)). IsAmong l (me c m e)) is (among_marked c m es e t)) in let s = at_mapped hand_of seats p.0 p.1 p.2 in let own = p.4 in (
+          p.0,
+          s.0,
+          s.1,
+          record {
+            slot_is = spare_is (view s.0) e.slot (ap (λ (h : Hand Mark). h.linked) s.2 ∙ p.3) (own.0 ∙ ap (λ (h : Hand Mark). h.slot) (sym s.2));
+            caller_is = ap (λ (h : Hand Mark). h.who) s.2 ∙ sym own.1;
+            value = ap (λ (h : Hand Mark). h.hold) s.2 ∙ own.2;
+          },
+        );
+        there = λ i s slot at own. let o = spare_tells (view s) slot own in let r = rested i s at in let t = spare_there (map hand_of seats) i (hand_of s) r.0 (at_map hand_of seats i s at) o.0 r.1 in
+            let p = at_mapped (me c m) es t.0 (entry (hand_of s).slot (hand_of s).who r.0) (ap (λ (l : List (Entry Mark)). get_elem? l t.0) is ∙ t.1) in
+            (p.0, (t.0, p.1), record { slot_is = own ∙ ap Some (sym o.1) ∙ ap (λ (e : Entry Mark). Some e.slot) (sym p.2); caller_is = ap (λ (e : Entry Mark). e.caller) (sym p.2); value = r.1 ∙ ap (λ (e : Entry Mark). Rests e.part) (sym p.2) });
+        order = is;
       }
 
       spare_pulled : (rest : List (Option V)) → Empties filled rest all_entries → (spare : List (Entry V)) × (map (me c m) spare ≡ spares_of (map hand_of seats)) × (slots_of seats ≡ map place_of spare) × AreIn rest spare
@@ -195,13 +228,12 @@ module _ {V : Type 0} (c : Coded V) (m : Meter V) (k : Founding V) (id : ℕ) (v
       ended = record {
         entries = all_entries;
         stored = λ words' same. stored_back c m words' filled all_entries (subst (λ (es : List (Entry Mark)). AreStored words' (map (f c m) filled) es) (sym entries_are) (of_marks.stored words' same));
+        count = count marks key id v words (map (f c m) slots) (map (f c m) parts) seats (final_seen c m k id v words slots final) taken_marked (len_map (f c m) parts ∙ long) hands enough rested;
         linked = linked_are;
+        spares_are = spares_are;
         used = λ told sizes i t a. (let low = of_marks.used told sizes i t a in let same = ap (used_sum marks) (sym entries_are) ∙ used_marked c m all_entries in omega arith);
         apart = λ spare is'. apart_back c m k.life (all_entries ++ spare) (subst (λ (es : List (Entry Mark)). AreApart marks k.life es) ((λ i. sym entries_are i ++ sym is' i) ∙ sym (map-append (me c m) all_entries spare)) of_marks.apart);
         spares = spare_pulled;
         none_left = λ rest left spare o is' gone i x at. no_value c m x (of_marks.none_left (map (f c m) rest) (map (f c m) left) (emptied_marked rest o)
             (subst (λ (es : List (Entry Mark)). Empties (map (f c m) rest) (map (f c m) left) es) is' (empties_marked c m rest left spare gone)) i (f c m x) (at_map (f c m) left i x at));
       }
-
-pub linked_founded : {V : Type 0} (mk : V → Mark) {es begun linked : List (Entry V)} {seats : List ListSeat} (others : List (Entry V)) → others ≡ es → AreLinked mk es begun seats linked → AreLinked mk others begun seats linked
-linked_founded mk {es} {begun} {linked} {seats} others is o = subst (λ (l : List (Entry _)). AreLinked mk l begun seats linked) (sym is) o

@@ -12,19 +12,19 @@ use Rattle.arena_list.specs.declared.founding.Founding.{Founding}
 use Rattle.arena_list.specs.declared.list.ListSeat.{ListSeat}
 use Rattle.arena_list.specs.declared.view.Node.{Node}
 use Rattle.arena_list.specs.declared.view.Hold.{Hold}
-use Rattle.arena_list.specs.declared.view.Hold.TheVariants.{Vacant, Filling, Away, Rests}
+use Rattle.arena_list.specs.declared.view.Hold.TheVariants.{Vacant, Filling, Moving, Away, Rests}
 use Rattle.arena_list.specs.declared.view.Hand.{Hand}
 use Rattle.arena_list.specs.declared.mark.Mark.{Mark}
 use Rattle.arena_list.specs.declared.view.View.{View}
 use Rattle.arena_list.specs.Nodes.{node, before, head_of, node_word, slot_of, Begins}
-use Rattle.arena_list.specs.Core.{Standing}
+use Rattle.arena_list.specs.Core.{Standing, slot_count}
 use Rattle.arena_list.specs.Views.{out, shown, sum_seen}
 use Rattle.arena_list.specs.Founded.{Meter, Fits, Differ, slot, caller, node_of, others_of}
-use Rattle.arena_list.specs.Rule.{Holds, HoldsAt, IsHand}
-use Rattle.arena_list.specs.Seats.{view}
-use Rattle.arena_list.specs.Closed.{HasTold, AreAtMost, used_sum, AreLinked, AreApart, entry, own_entry, spares_of, slots_of, hand_of, IsAmong, IsOwn, IsJoined, Rested}
+use Rattle.arena_list.specs.Rule.{Holds, HoldsAt, IsHand, hand_count}
+use Rattle.arena_list.specs.Seats.{view, IsAmong}
+use Rattle.arena_list.specs.Closed.{HasTold, AreAtMost, used_sum, AreApart, entry, own_entry, spares_of, slots_of, hand_of, Rested}
 use Rattle.arena_list.specs.Collected.{place_of, AreIn, AreStored, Fills, Empties}
-use Rattle.arena_list.proofs.Lists.{at_below, at_there, at_one, at_more}
+use Rattle.arena_list.proofs.Lists.{at_below, at_there, at_one, at_more, total-one}
 use Rattle.arena_list.proofs.Few.{at_map, at_mapped, len_map, slots_differ, few_nodes}
 use Rattle.arena_list.proofs.Sums.{sum_begins}
 use Rattle.arena_list.proofs.Opening.{differ_cons}
@@ -42,9 +42,21 @@ module _ {A : Type 0} where
   at_reverse (x ∷ xs) (suc k) a e = ap (λ (l : List A). get_elem? l (suc (length xs) - 1 - suc k)) (reverse-append (x ∷ []) xs)
       ∙ ap (get_elem? (reverse xs ++ x ∷ [])) (let low = at_below xs k a e in let z : suc (length xs) - 1 - suc k ≡ length xs - 1 - k = omega arith in z) ∙ at_more (reverse xs) (x ∷ []) (length xs - 1 - k) a (at_reverse xs k a e)
 
--- here values are marks
-abbrev pub plain : Mark → Mark
-plain p = p
+-- the entry is the hand's: its slot, its caller, and the value that rests there
+abbrev pub IsOwn : Hand Mark → Entry Mark → Type 0
+IsOwn h e = (e.slot ≡ h.slot) × (e.caller ≡ h.who) × (h.hold ≡ Rests e.part)
+
+-- the entry is that of a seat whose slot is in the list
+abbrev pub IsListedHand : List ListSeat → Entry Mark → Type 0
+IsListedHand seats e = (k : ℕ) × (s : ListSeat) × (get_elem? seats k ≡ some s) × ((hand_of s).linked ≡ true) × IsOwn (hand_of s) e
+
+-- what the contract of closing says of the linked entries, of their marks
+pub record AreCollected (wards begun : List (Entry Mark)) (seats : List ListSeat) (es : List (Entry Mark)) : Type 0 where
+  pub known : (e : Entry Mark) → IsAmong es e → IsListedHand seats e ⊎ IsAmong wards e
+  pub joined : (e : Entry Mark) → IsListedHand seats e → IsAmong es e
+  pub wards_are : (e : Entry Mark) → IsAmong wards e → IsAmong es e
+  pub seen : (k : ℕ) (s : ListSeat) → get_elem? seats k ≡ some s → Begins (view s).seen (map node_of es)
+  pub founded : Begins (map node_of begun) (map node_of es)
 
 -- ---- spare entries, hand by hand
 module _ where
@@ -55,17 +67,18 @@ module _ where
   spares_cons true own rest i e at = inl (i, at)
   spares_cons false own rest i e at = ⊎_elim (λ t. inr (refl, (i, t))) (λ t. inl (t.0, t.2)) (at_append own rest i e at)
 
-  own_among : (h : Hand Mark) (e : Entry Mark) → IsAmong (own_entry h) e → IsOwn plain h e
+  own_among : (h : Hand Mark) (e : Entry Mark) → IsAmong (own_entry h) e → IsOwn h e
   own_among h e t = by h.hold t.0 refl t.1 where
-    by : (x : Hold Mark) (i : ℕ) → h.hold ≡ x → get_elem? (own_entry (record h { hold = x })) i ≡ some e → IsOwn plain h e
+    by : (x : Hold Mark) (i : ℕ) → h.hold ≡ x → get_elem? (own_entry (record h { hold = x })) i ≡ some e → IsOwn h e
     by Vacant i is at = absurd (some-ne-none e (sym at))
-    by (Filling used) i is at = absurd (some-ne-none e (sym at))
+    by Filling i is at = absurd (some-ne-none e (sym at))
+    by (Moving used) i is at = absurd (some-ne-none e (sym at))
     by (Away used) i is at = absurd (some-ne-none e (sym at))
     by (Rests part) zero is at = let same = some-injective (entry h.slot h.who part) e at in (ap (λ (x : Entry Mark). x.slot) (sym same), ap (λ (x : Entry Mark). x.caller) (sym same), is ∙ ap (λ (x : Entry Mark). Rests x.part) same)
     by (Rests part) (suc i) is at = absurd (some-ne-none e (sym at))
 
   -- a spare entry is some hand's
-  pub spare_from : (hs : List (Hand Mark)) (e : Entry Mark) → IsAmong (spares_of hs) e → (j : ℕ) × (h : Hand Mark) × (get_elem? hs j ≡ some h) × (h.linked ≡ false) × IsOwn plain h e
+  pub spare_from : (hs : List (Hand Mark)) (e : Entry Mark) → IsAmong (spares_of hs) e → (j : ℕ) × (h : Hand Mark) × (get_elem? hs j ≡ some h) × (h.linked ≡ false) × IsOwn h e
   spare_from [] e t = absurd (some-ne-none e (sym t.1))
   spare_from (h ∷ hs) e t = ⊎_elim
       (λ p. let r = spare_from hs e p in (suc r.0, r.1, r.2, r.3, r.4))
@@ -92,7 +105,8 @@ module _ where
   spares_cons_apart false h hs other d = by h.hold refl where
     by : (x : Hold Mark) → h.hold ≡ x → Differ (map slot (own_entry (record h { hold = x }) ++ spares_of hs))
     by Vacant is = d
-    by (Filling used) is = d
+    by Filling is = d
+    by (Moving used) is = d
     by (Away used) is = d
     by (Rests part) is = more where
       new : (i : ℕ) → ¬ (get_elem? (map slot (spares_of hs)) i ≡ some h.slot)
@@ -192,7 +206,7 @@ module _ (m : Meter Mark) (k : Founding Mark) (s : State (Option Mark) (View Mar
     linked_hand i n a j t b same = ⊎_elim (λ t. t) (λ f. absurd ((is_hand j t b).spare f i n a (sym same))) (cases_Bool (hand_of t).linked)
 
     -- a node is that of a seat, or of another's entry
-    pub node_tells : (i : ℕ) (n : Node) (part : Mark) → get_elem? r.core.joined i ≡ some n → get_elem? with_others n.slot ≡ some (Some part) → IsJoined plain seats (entry n.slot n.caller part) ⊎ IsAmong others (entry n.slot n.caller part)
+    pub node_tells : (i : ℕ) (n : Node) (part : Mark) → get_elem? r.core.joined i ≡ some n → get_elem? with_others n.slot ≡ some (Some part) → IsListedHand seats (entry n.slot n.caller part) ⊎ IsAmong others (entry n.slot n.caller part)
     node_tells i n part a there = ⊎_elim
         (λ x. let t = seat_at x.0 x.1 x.2 in let rest = rested t.0 t.1 t.2 in
         let slot_is : (hand_of t.1).slot ≡ n.slot = ap (λ (h : Hand Mark). h.slot) t.3 ∙ x.3 in let who_is : (hand_of t.1).who ≡ n.caller = ap (λ (h : Hand Mark). h.who) t.3 ∙ x.4 in
@@ -254,12 +268,12 @@ module _ (m : Meter Mark) (k : Founding Mark) (s : State (Option Mark) (View Mar
         (λ p. subst (λ (l : List Node). Begins l r.core.joined) p (r.known id v at).seen)
         (λ p. (r.known id v at).pasts p.0 (view t).seen p.1) (told i t a))
 
-    pub are_linked : (told : (i : ℕ) (t : ListSeat) → get_elem? seats i ≡ some t → HasTold v (view t).seen) → AreLinked plain others k.linked.items seats linked_entries
+    pub are_linked : (told : (i : ℕ) (t : ListSeat) → get_elem? seats i ≡ some t → HasTold v (view t).seen) → AreCollected others k.linked.items seats linked_entries
     are_linked told = record {
       known = λ e t. node_tells t.0 (node_of e) e.part (joined_at t.0 e t.1) (values_there t.0 e t.1);
       joined = λ e t. let hand = t.4 in let own = (is_hand t.0 t.1 t.2).linked t.3 in let f = entry_of_node own.0 (node (hand_of t.1).slot (hand_of t.1).who) own.1 in
           among_as own.0 f.0 e f.1 (ap (λ (n : Node). n.slot) f.2 ∙ sym hand.0) (ap (λ (n : Node). n.caller) f.2 ∙ sym hand.1) (ap (get_elem? with_others) hand.0 ∙ seat_value t.0 t.1 e.part t.2 hand.2);
-      others = λ e t. let ward = r.wards t.0 e t.1 in let f = entry_of_node ward.linked.0 (node e.slot e.caller) ward.linked.1 in
+      wards_are = λ e t. let ward = r.wards t.0 e t.1 in let f = entry_of_node ward.linked.0 (node e.slot e.caller) ward.linked.1 in
           among_as ward.linked.0 f.0 e f.1 (ap (λ (n : Node). n.slot) f.2) (ap (λ (n : Node). n.caller) f.2) (filled.here t.0 e t.1);
       seen = seen_begins told;
       founded = subst (Begins (map node_of k.linked.items)) (sym nodes_are) r.started;
@@ -283,16 +297,16 @@ module _ (m : Meter Mark) (k : Founding Mark) (s : State (Option Mark) (View Mar
         let p = sizes i t a e.slot low in let q = knows.sizes e.slot in let u = used_now j e b in omega arith) in omega arith
 
     -- ---- all entries, those of the list first
-    spare_seat : (i : ℕ) (e : Entry Mark) → get_elem? spares i ≡ some e → (j : ℕ) × (t : ListSeat) × (get_elem? seats j ≡ some t) × ((hand_of t).linked ≡ false) × IsOwn plain (hand_of t) e
+    spare_seat : (i : ℕ) (e : Entry Mark) → get_elem? spares i ≡ some e → (j : ℕ) × (t : ListSeat) × (get_elem? seats j ≡ some t) × ((hand_of t).linked ≡ false) × IsOwn (hand_of t) e
     spare_seat i e a = let t = spare_from (map hand_of seats) e (i, a) in let p = at_mapped hand_of seats t.0 t.1 t.2 in
-        (t.0, p.0, p.1, ap (λ (h : Hand Mark). h.linked) p.2 ∙ t.3, subst (λ (h : Hand Mark). IsOwn plain h e) (sym p.2) t.4)
+        (t.0, p.0, p.1, ap (λ (h : Hand Mark). h.linked) p.2 ∙ t.3, subst (λ (h : Hand Mark). IsOwn h e) (sym p.2) t.4)
 
-    own_fits : (i : ℕ) (t : ListSeat) (e : Entry Mark) → get_elem? seats i ≡ some t → IsOwn plain (hand_of t) e → Fits m k.life e.caller e.part
+    own_fits : (i : ℕ) (t : ListSeat) (e : Entry Mark) → get_elem? seats i ≡ some t → IsOwn (hand_of t) e → Fits m k.life e.caller e.part
     own_fits i t e a own = subst (λ (who : ℕ). Fits m k.life who e.part) (sym own.1) (subst (λ (x : Hold Mark). HoldsAt m k.life r.core s.homes (hand_of t) x) own.2 (is_hand i t a).hold).2
 
     -- a slot is one of 64 and its caller's, and its part fits
     IsSound : Entry Mark → Type 0
-    IsSound e = (e.slot < 64) × (r.holder e.slot ≡ some e.caller) × Fits m k.life e.caller e.part
+    IsSound e = (e.slot < slot_count) × (r.holder e.slot ≡ some e.caller) × Fits m k.life e.caller e.part
 
     linked_sound : (i : ℕ) (e : Entry Mark) → get_elem? linked_entries i ≡ some e → IsSound e
     unfolding IsSound
@@ -306,7 +320,7 @@ module _ (m : Meter Mark) (k : Founding Mark) (s : State (Option Mark) (View Mar
     spare_sound : (i : ℕ) (e : Entry Mark) → get_elem? spares i ≡ some e → IsSound e
     unfolding IsSound
     spare_sound i e a = let t = spare_seat i e a in let own = is_hand t.0 t.1 t.2 in let is = t.4 in
-        (subst (λ (n : ℕ). n < 64) (sym is.0) own.slot, ap r.holder is.0 ∙ own.held ∙ ap (λ (n : ℕ). some n) (sym is.1), own_fits t.0 t.1 e t.2 t.4)
+        (subst (λ (n : ℕ). n < slot_count) (sym is.0) own.slot, ap r.holder is.0 ∙ own.held ∙ ap (λ (n : ℕ). some n) (sym is.1), own_fits t.0 t.1 e t.2 t.4)
 
     all_sound : (i : ℕ) (e : Entry Mark) → get_elem? (linked_entries ++ spares) i ≡ some e → IsSound e
     all_sound i e a = ⊎_elim (λ t. linked_sound i e t) (λ t. spare_sound t.0 e t.2) (at_append linked_entries spares i e a)
@@ -367,7 +381,7 @@ module _ (m : Meter Mark) (k : Founding Mark) (s : State (Option Mark) (View Mar
         cases_maybe (some who) = inr (who, refl)
 
         -- no value is left
-        pub none_left : length homes ≡ 64 → (i : ℕ) (x : Option Mark) → get_elem? left i ≡ some x → x ≡ None
+        pub none_left : length homes ≡ slot_count → (i : ℕ) (x : Option Mark) → get_elem? left i ≡ some x → x ≡ None
         none_left long i x b = ⊎_elim
             (λ free. ⊎_elim (λ t. t) (λ t. ⊎_elim (λ t. t)
             (λ t. ⊎_elim (λ h. at_one homes i x None h (kept i None (r.idle i (let l = at_below homes i x h in omega arith) free)))
@@ -380,7 +394,7 @@ module _ (m : Meter Mark) (k : Founding Mark) (s : State (Option Mark) (View Mar
 pub record Ends (m : Meter Mark) (k : Founding Mark) (v : View Mark) (seats : List ListSeat) (words : List ℕ) (filled : List (Option Mark)) : Type 0 where
   pub entries : List (Entry Mark)
   pub stored : (words' : List ℕ) → words' ≡ words → AreStored words' filled entries
-  pub linked : ((i : ℕ) (t : ListSeat) → get_elem? seats i ≡ some t → HasTold v (view t).seen) → AreLinked plain (others_of k.linked.items k.callers.items) k.linked.items seats entries
+  pub linked : ((i : ℕ) (t : ListSeat) → get_elem? seats i ≡ some t → HasTold v (view t).seen) → AreCollected (others_of k.linked.items k.callers.items) k.linked.items seats entries
   pub used : ((i : ℕ) (t : ListSeat) → get_elem? seats i ≡ some t → HasTold v (view t).seen) → ((i : ℕ) (t : ListSeat) → get_elem? seats i ≡ some t → AreAtMost (view t).sizes v.sizes)
       → (i : ℕ) (t : ListSeat) → get_elem? seats i ≡ some t → shown (view t) ≤ used_sum m entries
   pub apart : AreApart m k.life (entries ++ spares_of (map hand_of seats))
@@ -389,13 +403,17 @@ pub record Ends (m : Meter Mark) (k : Founding Mark) (v : View Mark) (seats : Li
 
 -- these words, and parts that are the values of the slots
 module _ (m : Meter Mark) (k : Founding Mark) (id : ℕ) (v : View Mark) (words : List ℕ) (slots parts : List (Option Mark)) (seats : List ListSeat) (final : Final (Seen (Holds m k) id v) words slots)
-    (taken : (i : ℕ) (x : Option Mark) → get_elem? parts i ≡ some x → get_elem? slots i ≡ some x) (long : length parts ≡ 64)
-    (hands : v.hands ≡ reverse (map hand_of seats)) (count : length seats ≡ length k.callers.items) (rested : (i : ℕ) (t : ListSeat) → get_elem? seats i ≡ some t → Rested t) where
+    (taken : (i : ℕ) (x : Option Mark) → get_elem? parts i ≡ some x → get_elem? slots i ≡ some x) (long : length parts ≡ slot_count)
+    (hands : v.hands ≡ reverse (map hand_of seats)) (enough : length k.callers.items ≤ length seats) (rested : (i : ℕ) (t : ListSeat) → get_elem? seats i ≡ some t → Rested t) where
   abbrev state : State (Option Mark) (View Mark)
   state = final.0
 
   abbrev rule : Holds m k state
   rule = final.1.0
+
+  -- no more hands than callers stand in all views, so as many seats are all
+  pub count : length seats ≡ length k.callers.items
+  count = let all = ap length hands ∙ length-reverse (map hand_of seats) ∙ len_map hand_of seats in let one = total-one hand_count state.views id v final.1.1 in let c = rule.counted in omega arith
 
   kept : (i : ℕ) (y : Option Mark) → get_elem? state.homes i ≡ some (some y) → get_elem? parts i ≡ some y
   kept i y e = let t = at_there parts i (let a = at_below state.homes i (some y) e in let b = rule.slots in omega arith) in

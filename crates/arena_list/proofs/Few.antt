@@ -10,7 +10,7 @@ use mathlib.Core.Option.{some, none, some-injective, some-ne-none}
 use lib.ListN.{get_elem?}
 use Rattle.arena_list.specs.declared.view.Node.{Node}
 use Rattle.arena_list.specs.Nodes.{node, slot_of}
-use Rattle.arena_list.specs.Core.{IsListed, CallersDiffer}
+use Rattle.arena_list.specs.Core.{IsListed, CallersDiffer, slot_count}
 use Rattle.arena_list.specs.Founded.{Differ}
 use Rattle.arena_list.proofs.Lists.{at_there, at_end}
 
@@ -58,8 +58,8 @@ module _ (holder : ℕ → maybe.Option ℕ) (nodes : List Node) (listed : (i : 
       let who : p.0.caller ≡ q.0.caller = some-injective _ _ (sym (listed i p.0 p.1).held ∙ ap holder same ∙ (listed j q.0 q.1).held) in
       callers i j p.0 q.0 p.1 q.1 who
 
-  pub few_nodes : length nodes ≤ 64
-  few_nodes = let f = few 64 (map slot_of nodes) slots_differ (λ i x a. let p = at_mapped slot_of nodes i x a in subst (λ (y : ℕ). y < 64) p.2 ((listed i p.0 p.1).slot)) in let l = len_map slot_of nodes in omega arith
+  pub few_nodes : length nodes ≤ slot_count
+  few_nodes = let f = few slot_count (map slot_of nodes) slots_differ (λ i x a. let p = at_mapped slot_of nodes i x a in subst (λ (y : ℕ). y < slot_count) p.2 ((listed i p.0 p.1).slot)) in let l = len_map slot_of nodes in omega arith
 
 -- the list with one more node, of a caller that has none in it
 module _ (holder : ℕ → maybe.Option ℕ) (nodes : List Node) (slot who : ℕ) where
@@ -72,6 +72,6 @@ module _ (holder : ℕ → maybe.Option ℕ) (nodes : List Node) (slot who : ℕ
       (λ p. ⊎_elim (λ q. absurd (none_yet j o q (sym same ∙ ap (λ (n : Node). n.caller) (sym p.1)))) (λ q. p.0 ∙ sym q.0) (at_end nodes (node slot who) o j b))
       (at_end nodes (node slot who) n i a)
 
-  pub fewer_nodes : ((i : ℕ) (n : Node) → get_elem? nodes i ≡ some n → IsListed holder n) → IsListed holder (node slot who) → CallersDiffer nodes → ((i : ℕ) (n : Node) → get_elem? nodes i ≡ some n → n.caller ≢ who) → length nodes < 64
+  pub fewer_nodes : ((i : ℕ) (n : Node) → get_elem? nodes i ≡ some n → IsListed holder n) → IsListed holder (node slot who) → CallersDiffer nodes → ((i : ℕ) (n : Node) → get_elem? nodes i ≡ some n → n.caller ≢ who) → length nodes < slot_count
   fewer_nodes listed new callers none_yet = let f = few_nodes holder (nodes ++ node slot who ∷ []) (listed_more listed new) (callers_more callers none_yet) in
       let l : length (nodes ++ node slot who ∷ []) ≡ length nodes + 1 = length-append nodes (node slot who ∷ []) in omega arith

@@ -9,8 +9,9 @@ use native.Mathlib.Decide.{ℕ_discrete}
 use lib.ListN.{get_elem?}
 use Rattle.arena_list.specs.declared.entry.Entry.{Entry}
 use Rattle.arena_list.specs.declared.view.Node.{Node}
+use Rattle.arena_list.specs.Core.{slot_count}
 use Rattle.arena_list.specs.Nodes.{before, head_of, node_word}
-use Rattle.arena_list.specs.Words.{node_at, state_at}
+use Rattle.arena_list.specs.Words.{node_at, state_at, word_count}
 use Rattle.arena_list.specs.Founded.{Meter, AreFit, IsLaid, IsLaidTo, has, slot, node_of, with_entry}
 use Rattle.arena_list.proofs.Lists.{at_below, at_one, at_more}
 use Rattle.arena_list.proofs.Few.{at_map, at_mapped, len_map, few}
@@ -18,7 +19,7 @@ use Rattle.arena_list.proofs.Links.{before_at, before_small}
 use Rattle.arena_list.proofs.Opening.{filter_tells, filter_keeps}
 
 module _ {V : Type 0} (m : Meter V) (linked : List (Entry V)) (callers : List ℕ) where
-  pub lays_none : (words : List ℕ) → length words ≡ 592 → ((k : ℕ) → slice_index words k ≡ 0) → IsLaidTo m linked callers words 0
+  pub lays_none : (words : List ℕ) → length words ≡ word_count → ((k : ℕ) → slice_index words k ≡ 0) → IsLaidTo m linked callers words 0
   lays_none words wide zeros = record {
     wide = wide;
     nodes = λ i e low at. absurd (omega arith);
@@ -26,7 +27,7 @@ module _ {V : Type 0} (m : Meter V) (linked : List (Entry V)) (callers : List �
     away = λ s low free. zeros (state_at s);
   }
 
-  module _ (words : List ℕ) (i : ℕ) (e : Entry V) (link : ℕ) (at : get_elem? linked i ≡ some e) (small : (j : ℕ) (o : Entry V) → get_elem? linked j ≡ some o → o.slot < 64)
+  module _ (words : List ℕ) (i : ℕ) (e : Entry V) (link : ℕ) (at : get_elem? linked i ≡ some e) (small : (j : ℕ) (o : Entry V) → get_elem? linked j ≡ some o → o.slot < slot_count)
       (differ : (j : ℕ) (o : Entry V) → j < i → get_elem? linked j ≡ some o → o.slot ≢ e.slot) (is : link ≡ before (map node_of linked) i) (o : IsLaidTo m linked callers words i) where
     abbrev noded : List ℕ
     noded = set words (node_at e.slot) (node_word e.caller link)
@@ -55,7 +56,7 @@ module _ {V : Type 0} (m : Meter V) (linked : List (Entry V)) (callers : List �
     stated = set noded (state_at e.slot) (2 * m.used e.part + 1)
 
     lays_stranger : has callers e.caller ≡ false → IsLaidTo m linked callers stated (i + 1)
-    lays_stranger none_yet = let s = small i e at in let w = o.wide in let wide : length noded ≡ 592 = length-set words (node_at e.slot) (node_word e.caller link) ∙ o.wide in record {
+    lays_stranger none_yet = let s = small i e at in let w = o.wide in let wide : length noded ≡ word_count = length-set words (node_at e.slot) (node_word e.caller link) ∙ o.wide in record {
       wide = length-set noded (state_at e.slot) (2 * m.used e.part + 1) ∙ wide;
       nodes = λ j x low there. let z = small j x there in get_or-set_other noded (state_at e.slot) (node_at x.slot) (2 * m.used e.part + 1) 0 (λ t. omega arith) ∙ noded_nodes j x low there;
       home = λ j x low there no. dite (ℕ_discrete j i)
@@ -79,7 +80,7 @@ module _ {V : Type 0} (m : Meter V) (linked : List (Entry V)) (callers : List �
   no_less true e = absurd (false≢true (sym e))
   no_less false e = refl
 
-  pub lays_all : (words : List ℕ) (head : ℕ) → ((j : ℕ) (o : Entry V) → get_elem? linked j ≡ some o → o.slot < 64) → head ≡ head_of (map node_of linked) → IsLaidTo m linked callers words (length linked) → IsLaid m linked callers (set words 0 head)
+  pub lays_all : (words : List ℕ) (head : ℕ) → ((j : ℕ) (o : Entry V) → get_elem? linked j ≡ some o → o.slot < slot_count) → head ≡ head_of (map node_of linked) → IsLaidTo m linked callers words (length linked) → IsLaid m linked callers (set words 0 head)
   lays_all words head small is o = let w = o.wide in record {
     wide = length-set words 0 head ∙ o.wide;
     head = get_or-set_same words 0 head 0 (omega arith) ∙ is;
@@ -91,22 +92,22 @@ module _ {V : Type 0} (m : Meter V) (linked : List (Entry V)) (callers : List �
 
 -- what fits leaves no two entries with one slot
 module _ {V : Type 0} (m : Meter V) (life : ℕ) (linked spare : List (Entry V)) (callers : List ℕ) (fit : AreFit m life linked spare callers) where
-  pub linked_small : (j : ℕ) (o : Entry V) → get_elem? linked j ≡ some o → o.slot < 64
+  pub linked_small : (j : ℕ) (o : Entry V) → get_elem? linked j ≡ some o → o.slot < slot_count
   linked_small j o at = fit.small j o (at_more linked spare j o at)
 
   pub linked_differ : (i : ℕ) (e : Entry V) → get_elem? linked i ≡ some e → (j : ℕ) (o : Entry V) → j < i → get_elem? linked j ≡ some o → o.slot ≢ e.slot
   linked_differ i e at j o low there = λ same. let p = at_map slot (linked ++ spare) j o (at_more linked spare j o there) in let q = at_map slot (linked ++ spare) i e (at_more linked spare i e at) in
       let z : j ≡ i = fit.slots j i e.slot (p ∙ ap (λ (z : ℕ). some z) same) q in omega arith
 
-  pub linked_before : (k : ℕ) → before (map node_of linked) k ≤ 64
-  linked_before k = before_small (map node_of linked) (λ i n at. let p = at_mapped node_of linked i n at in subst (λ (z : Node). z.slot < 64) p.2 (linked_small i p.0 p.1)) k
+  pub linked_before : (k : ℕ) → before (map node_of linked) k ≤ slot_count
+  linked_before k = before_small (map node_of linked) (λ i n at. let p = at_mapped node_of linked i n at in subst (λ (z : Node). z.slot < slot_count) p.2 (linked_small i p.0 p.1)) k
 
   pub next_before : (i : ℕ) (e : Entry V) → get_elem? linked i ≡ some e → before (map node_of linked) (i + 1) ≡ e.slot + 1
   next_before i e at = ap (before (map node_of linked)) (let z : i + 1 ≡ suc i = omega arith in z) ∙ before_at (map node_of linked) i (node_of e) (at_map node_of linked i e at)
 
   -- there are at most as many entries as slots
-  pub all_few : length linked + length spare ≤ 64
-  all_few = let f = few 64 (map slot (linked ++ spare)) fit.slots (λ i x at. let p = at_mapped slot (linked ++ spare) i x at in subst (λ (y : ℕ). y < 64) p.2 (fit.small i p.0 p.1)) in
+  pub all_few : length linked + length spare ≤ slot_count
+  all_few = let f = few slot_count (map slot (linked ++ spare)) fit.slots (λ i x at. let p = at_mapped slot (linked ++ spare) i x at in subst (λ (y : ℕ). y < slot_count) p.2 (fit.small i p.0 p.1)) in
       let a = len_map slot (linked ++ spare) in let b = length-append linked spare in omega arith
 
   pub head_fits : (link : ℕ) → link ≡ before (map node_of linked) (length linked) → length linked * 2 ^ 32 + link ≡ head_of (map node_of linked)

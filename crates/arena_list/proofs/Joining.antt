@@ -13,6 +13,7 @@ use Rattle.arena_list.specs.declared.founding.Founding.{Founding}
 use Rattle.arena_list.specs.declared.view.Node.{Node}
 use Rattle.arena_list.specs.declared.view.Hand.{Hand}
 use Rattle.arena_list.specs.declared.view.View.{View}
+use Rattle.arena_list.specs.Core.{slot_count}
 use Rattle.arena_list.specs.Nodes.{Begins}
 use Rattle.arena_list.specs.Views.{hand}
 use Rattle.arena_list.specs.Founded.{Meter}
@@ -153,7 +154,7 @@ module _ {V : Type 0} (m : Meter V) (k : Founding V) (s : State (Option V) (View
       seen = record { short = omega arith; same = λ i n e. absurd (some-ne-none n (sym e)) };
       pasts = λ i nodes e. absurd (some-ne-none nodes (sym e));
       room = refl;
-      sizes = λ slot. let z = zeros 64 slot in omega arith;
+      sizes = λ slot. let z = zeros slot_count slot in omega arith;
     }
 
     pub join_holds : Holds m k record { words = s.words; homes = s.homes; views = views' }

@@ -7,21 +7,23 @@ use Rattle.atomic_table.specs.Table.{State, step, keeps, Allows}
 use Rattle.arena_list.specs.declared.founding.Founding.{Founding}
 use Rattle.arena_list.specs.declared.view.Node.{Node}
 use Rattle.arena_list.specs.declared.view.Hold.{Hold}
-use Rattle.arena_list.specs.declared.view.Hold.TheVariants.{Vacant, Filling, Away, Rests}
+use Rattle.arena_list.specs.declared.view.Hold.TheVariants.{Vacant, Filling, Moving, Away, Rests}
 use Rattle.arena_list.specs.declared.view.Hand.{Hand}
 use Rattle.arena_list.specs.declared.view.View.{View}
 use Rattle.arena_list.specs.Nodes.{node_word}
-use Rattle.arena_list.specs.Core.{Core}
+use Rattle.arena_list.specs.Core.{Core, slot_count}
 use Rattle.arena_list.specs.Words.{node_at, state_at}
 use Rattle.arena_list.specs.Views.{hand, first_hand}
 use Rattle.arena_list.specs.Founded.{Meter, Fits}
 use Rattle.arena_list.specs.Rule.{Holds, HoldsAt, IsHand, Knows}
-use Rattle.arena_list.specs.Moments.{SeenList, SeenSize}
-use Rattle.arena_list.specs.Steps.{Sat, Sees, counted, looked, noted, next_link, saw_head, saw_node, stored_node}
+use Rattle.arena_list.specs.Events.{Event, look, size, Makes, StandAsBefore}
+use Rattle.arena_list.specs.Moments.{Moment, SeenList, SeenSize}
+use Rattle.arena_list.specs.After.{counted, looked, noted, next_link, sized}
+use Rattle.arena_list.specs.Steps.{Sat, Sees, saw_head, saw_node, stored_node}
 use Rattle.arena_list.proofs.Lists.{at_below, begins_itself}
 use Rattle.arena_list.proofs.Few.{few_nodes, fewer_nodes}
 use Rattle.arena_list.proofs.Links.{before_begins}
-use Rattle.arena_list.proofs.Moved.{Homes, Moves, moved}
+use Rattle.arena_list.proofs.Moved.{Homes, Moves, moved, moved_core}
 
 pub hands_are : {V : Type 0} (hs : List (Hand V)) → length hs ≡ 1 → hs ≡ first_hand hs ∷ []
 hands_are [] e = absurd (omega arith)
@@ -61,17 +63,39 @@ module _ {V : Type 0} (m : Meter V) (k : Founding V) where
       fewer = λ e. fewer_nodes r.holder r.core.joined (hand v).slot (hand v).who r.listed record { slot = own.slot; held = own.held } r.callers (own.spare e);
     }
 
-    -- the moment of a step, with the list and the sums that it shows
-    pub seen_list : SeenList m v.base v r.core.joined
-    seen_list = subst (λ (z : Founding V). SeenList m z v r.core.joined) (sym own_hand.0) record { state = s; id = id; moment = record { rule = r; stands = at }; nodes_are = refl }
-
-    pub seen_size : (slot used : ℕ) → used ≡ (r.core.standing slot).used → SeenSize m v.base v slot used
-    seen_size slot used is = subst (λ (z : Founding V). SeenSize m z v slot used) (sym own_hand.0) record { state = s; id = id; moment = record { rule = r; stands = at }; used_is = sym is }
-
     -- a step that changes no word leaves the rule, with another view of the same hand
     pub reviewed : (w : View V) → w.hands ≡ v.hands → w.base ≡ v.base → Knows r.core w → Holds m k record { words = s.words; homes = s.homes; views = set s.views id w }
     reviewed w hands bases knows = let one = hands_are v.hands alone in
         moved m k s r id v w (hand v) (hand v) at one (hands ∙ one) bases refl refl r.core s.words s.homes stays own_hand.1 knows
+
+    reviewed_core : (w : View V) (hands : w.hands ≡ v.hands) (bases : w.base ≡ v.base) (knows : Knows r.core w) → (reviewed w hands bases knows).core ≡ r.core
+    unfolding reviewed
+    reviewed_core w hands bases knows = let one = hands_are v.hands alone in moved_core m k s r id v w (hand v) (hand v) at one (hands ∙ one) bases refl refl r.core s.words s.homes stays own_hand.1 knows
+
+    -- the moment of a step that leaves the core
+    looking : (e : Event) (w : View V) (hands : w.hands ≡ v.hands) (bases : w.base ≡ v.base) (knows : Knows r.core w) → ((d : Core) → (d.joined ≡ r.core.joined) × StandAsBefore r.core d → Makes e r.core d) → Moment m k e v w
+    looking e w hands bases knows made = let same = reviewed_core w hands bases knows in record {
+      before = s;
+      after = record { words = s.words; homes = s.homes; views = set s.views id w };
+      id = id;
+      rule = r;
+      rule_after = reviewed w hands bases knows;
+      stands = at;
+      alone = refl;
+      makes = made (reviewed w hands bases knows).core (ap (λ (c : Core). c.joined) same, λ slot. ap (λ (c : Core). c.standing slot) same);
+    }
+
+    looked_knows : Knows r.core (looked v r.core.joined)
+    looked_knows = let knows = r.known id v at in record { seen = begins_itself r.core.joined; room = knows.room; pasts = knows.pasts; sizes = knows.sizes }
+
+    -- with the list and the sums that it shows
+    pub seen_list : SeenList m v.base v r.core.joined
+    unfolding looking
+    seen_list = subst (λ (z : Founding V). SeenList m z v r.core.joined) (sym own_hand.0) record { moment = looking look (looked v r.core.joined) refl refl looked_knows (λ d is. is); nodes_are = refl }
+
+    pub seen_size : (slot used : ℕ) → used ≡ (r.core.standing slot).used → Knows r.core (sized v slot used) → SeenSize m v.base v slot used
+    unfolding looking
+    seen_size slot used is knows = subst (λ (z : Founding V). SeenSize m z v slot used) (sym own_hand.0) record { moment = looking (size slot) (sized v slot used) refl refl knows (λ d is. is); used_is = sym is }
 
   -- a load leaves the words
   pub loaded : (s : St) (i id : ℕ) (w : View V) → Holds m k record { words = s.words; homes = s.homes; views = set s.views id w } → Holds m k record { words = set s.words i (get_or s.words i 0); homes = s.homes; views = set s.views id w }
@@ -103,7 +127,7 @@ module _ {V : Type 0} (m : Meter V) (k : Founding V) where
         own.spare spare i n e (some-injective _ _ (sym (r.listed i n e).held ∙ ap r.holder same ∙ own.held))
 
     noting : (hand v).linked ≡ false → (new : ℕ) → Moves r.core r.holder s.words s.homes (hand v) r.core (set s.words (node_at (hand v).slot) new) s.homes
-    noting spare new = let own = (own_hand s r id v at alone).1 in let small : (hand v).slot < 64 = own.slot in record {
+    noting spare new = let own = (own_hand s r id v at alone).1 in let small : (hand v).slot < slot_count = own.slot in record {
       grows = begins_itself r.core.joined;
       adds = λ i n e. inl e;
       callers = r.callers;
@@ -122,7 +146,8 @@ module _ {V : Type 0} (m : Meter V) (k : Founding V) where
 
   pub hold_as : (c : Core) (hs : Homes V) (h g : Hand V) (x : Hold V) → g.slot ≡ h.slot → g.who ≡ h.who → (h.linked ≡ true → g.linked ≡ true) → HoldsAt m k.life c hs h x → HoldsAt m k.life c hs g x
   hold_as c hs h g Vacant s w l x = (ap c.standing s ∙ x.0, ap (get_elem? hs) s ∙ x.1)
-  hold_as c hs h g (Filling used) s w l x = ap c.standing s ∙ x
+  hold_as c hs h g Filling s w l x = ap c.standing s ∙ x
+  hold_as c hs h g (Moving used) s w l x = (ap c.standing s ∙ x.0, l x.1)
   hold_as c hs h g (Away used) s w l x = (ap c.standing s ∙ x.0, ap (get_elem? hs) s ∙ x.1, l x.2)
   hold_as c hs h g (Rests part) s w l x = (ap c.standing s ∙ x.0, ap (get_elem? hs) s ∙ x.1, subst (λ (who : ℕ). Fits m k.life who part) (sym w) x.2)
 

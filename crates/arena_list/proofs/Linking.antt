@@ -11,21 +11,22 @@ use Rattle.atomic_table.specs.Table.{State, step, keeps, stepped, Allows}
 use Rattle.arena_list.specs.declared.founding.Founding.{Founding}
 use Rattle.arena_list.specs.declared.view.Node.{Node}
 use Rattle.arena_list.specs.declared.view.Hold.{Hold}
-use Rattle.arena_list.specs.declared.view.Hold.TheVariants.{Vacant, Filling, Away, Rests}
+use Rattle.arena_list.specs.declared.view.Hold.TheVariants.{Vacant, Filling, Moving, Away, Rests}
 use Rattle.arena_list.specs.declared.view.Hand.{Hand}
 use Rattle.arena_list.specs.declared.view.View.{View}
 use Rattle.arena_list.specs.Nodes.{before, head_of, node_word, Begins}
-use Rattle.arena_list.specs.Core.{core, IsListed}
+use Rattle.arena_list.specs.Core.{Core, core, IsListed}
 use Rattle.arena_list.specs.Words.{Show, node_at, state_at}
 use Rattle.arena_list.specs.Views.{hand}
 use Rattle.arena_list.specs.Founded.{Meter}
 use Rattle.arena_list.specs.Rule.{Holds, HoldsAt, IsHand}
-use Rattle.arena_list.specs.Moments.{SeenList}
-use Rattle.arena_list.specs.Steps.{Sat, Sees, looked, joined, next_link, own_node, tried_link}
+use Rattle.arena_list.specs.Moments.{SeenJoin}
+use Rattle.arena_list.specs.After.{looked, joined, next_link, own_node}
+use Rattle.arena_list.specs.Steps.{Sat, Sees, tried_link}
 use Rattle.arena_list.proofs.Lists.{at_end, at_below, begins_itself, begins_on, begins_more}
 use Rattle.arena_list.proofs.Few.{few_nodes, listed_more, callers_more}
 use Rattle.arena_list.proofs.Links.{before_begins, one_head, begins_whole}
-use Rattle.arena_list.proofs.Moved.{Moves, moved}
+use Rattle.arena_list.proofs.Moved.{Moves, moved, moved_core}
 use Rattle.arena_list.proofs.Keeps.{hands_are, own_hand, sees, seen_list, reviewed, loaded, hold_as}
 use Rattle.atomic_table.proofs.Lists.{at_last}
 use Rattle.std.proofs.lemmas.Bool.{false≢true}
@@ -97,9 +98,29 @@ module _ {V : Type 0} (m : Meter V) (k : Founding V) where
         record { seen = subst (λ (l : List Node). Begins l more) (sym appended) (begins_itself more); room = knows.room; pasts = λ i nodes e. begins_on (knows.pasts i nodes e) (begins_more J (own_node v ∷ [])); sizes = knows.sizes } where
           hold_in : (x : Hold V) → HoldsAt m k.life r.core s.homes h x → HoldsAt m k.life (core more r.core.standing) s.homes h x
           hold_in Vacant x = x
-          hold_in (Filling used) x = x
+          hold_in Filling x = x
+          hold_in (Moving used) x = x
           hold_in (Away used) x = x
           hold_in (Rests part) x = x
+
+    linked_core : (new : ℕ) (is : new ≡ head_of (v.seen ++ own_node v ∷ [])) → (linked_holds new is).core ≡ core more r.core.standing
+    unfolding linked_holds
+    linked_core new is = moved_core m k s r id v (joined v) h linked_hand at (hands_are v.hands alone) refl refl refl refl _ _ _ _ _ _
+
+    pub seen_join : (new : ℕ) → new ≡ head_of (v.seen ++ own_node v ∷ []) → SeenJoin m v.base v
+    seen_join new is = let after = linked_core new is in subst (λ (z : Founding V). SeenJoin m z v) (sym (own_hand m k s r id v at alone).0) record {
+      moment = record {
+        before = s;
+        after = record { words = set s.words 0 new; homes = s.homes; views = set s.views id (joined v) };
+        id = id;
+        rule = r;
+        rule_after = linked_holds new is;
+        stands = at;
+        alone = refl;
+        makes = (ap (λ (c : Core). c.joined) after, λ slot. ap (λ (c : Core). c.standing slot) after);
+      };
+      nodes_are = sym same;
+    }
 
     pub linked_sees : Sees linked_hand (v.seen ++ own_node v ∷ [])
     linked_sees = subst (λ (l : List Node). Sees linked_hand l) (sym appended) record {
@@ -123,7 +144,7 @@ module _ {V : Type 0} (m : Meter V) (k : Founding V) where
         keeps,
         tt,
         subst (λ (b : Bool). Holds m k (stepped s 0 (either b new n) id me.1 (joined v) keeps)) (sym (eq-eqb n old hit)) (linked_holds s r id v at alone spare same ready new is_new),
-        ((λ _. (refl, linked_sees s r id v at alone spare same ready, subst (λ (l : List Node). SeenList m v.base v l) (sym same) (seen_list m k s r id v at alone))), λ not. absurd (not hit)),
+        ((λ _. (refl, linked_sees s r id v at alone spare same ready, seen_join s r id v at alone spare same ready new is_new)), λ not. absurd (not hit)),
       ))
       (λ miss. let w = looked v r.core.joined in (
         w,

@@ -6,6 +6,7 @@ use native.Mathlib.Decide.{ℕ_discrete, dec_le}
 use lib.ListN.{get_elem?}
 use Rattle.std.proofs.lemmas.List.{length-append}
 use Rattle.arena_list.specs.declared.view.Node.{Node}
+use Rattle.arena_list.specs.Core.{slot_count}
 use Rattle.arena_list.specs.Nodes.{node, slot_of, before, head_of, Begins, HasNode, LacksNode}
 use Rattle.atomic_table.proofs.Lists.{at_last}
 use Rattle.arena_list.proofs.Lists.{at_there}
@@ -25,7 +26,7 @@ pub before_begins : {xs ys : List Node} → Begins xs ys → (k : ℕ) → k ≤
 before_begins b zero h = refl
 before_begins {xs = xs} {ys = ys} b (suc k) h = let t = at_there xs k (omega arith) in before_at ys k t.0 (b.same k t.0 t.1) ∙ sym (before_at xs k t.0 t.1)
 
-pub before_small : (nodes : List Node) → ((i : ℕ) (n : Node) → get_elem? nodes i ≡ some n → n.slot < 64) → (k : ℕ) → before nodes k ≤ 64
+pub before_small : (nodes : List Node) → ((i : ℕ) (n : Node) → get_elem? nodes i ≡ some n → n.slot < slot_count) → (k : ℕ) → before nodes k ≤ slot_count
 before_small nodes small zero = omega arith
 before_small nodes small (suc k) = dite (dec_le (length nodes) k)
     (λ past. let l = len_map slot_of nodes in let e = past_end (map slot_of nodes) k 0 (omega arith) in omega arith)
@@ -59,7 +60,7 @@ begins_whole (x ∷ xs) (y ∷ ys) b e = let first : y ≡ x = some-injective _ 
     (λ i. sym first i ∷ rest i)
 
 -- the head's word tells how many nodes there are, so a list that begins another is it where their heads are one number
-pub one_head : (xs ys : List Node) → Begins xs ys → ((i : ℕ) (n : Node) → get_elem? ys i ≡ some n → n.slot < 64) → head_of xs ≡ head_of ys → xs ≡ ys
+pub one_head : (xs ys : List Node) → Begins xs ys → ((i : ℕ) (n : Node) → get_elem? ys i ≡ some n → n.slot < slot_count) → head_of xs ≡ head_of ys → xs ≡ ys
 one_head xs ys b small e = let p = before_small ys small (length ys) in
     let q = before_small xs (λ i n t. small i n (b.same i n t)) (length xs) in
     let x : ℕ = length xs in let y : ℕ = length ys in let h = e in begins_whole xs ys b (omega arith)

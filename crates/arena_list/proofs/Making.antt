@@ -9,16 +9,26 @@ use Rattle.arena_list.specs.declared.entry.Entry.{Entry}
 use Rattle.arena_list.specs.declared.founding.Founding.{Founding}
 use Rattle.arena_list.specs.declared.list.ListSeat.{ListSeat}
 use Rattle.arena_list.specs.declared.list.ArenaList.{ArenaList}
-use Rattle.arena_list.specs.Founded.{Meter, AreFit, IsLaid, Differ, has, slot, others_of, entry_of}
-use Rattle.arena_list.proofs.Lists.{at_more}
+use Rattle.arena_list.specs.Founded.{Meter, AreFit, IsLaid, Fits, Differ, has, slot, caller, others_of, entry_of, hand_from, fresh}
+use Rattle.arena_list.proofs.Lists.{at_more, at_below}
 use Rattle.arena_list.proofs.Seats.{at_behind}
 use Rattle.arena_list.proofs.Few.{at_map, at_mapped}
-use Rattle.arena_list.proofs.Opening.{entry_for, filter_tells, differ_tail, differ_cons}
-use Rattle.arena_list.proofs.Searches.{entry_first}
+use Rattle.arena_list.proofs.Opening.{entry_for, entry_at, filter_tells, differ_tail, differ_cons}
+use Rattle.arena_list.proofs.Searches.{entry_first, entry_absent, hand_linked, hand_spare}
 use Rattle.arena_list.proofs.Filling.{all_once}
-use Rattle.arena_list.specs.Marks.{marks, marked_founding}
+use Rattle.arena_list.specs.Marks.{marks, mark, marked_entry, marked_founding}
 use Rattle.arena_list.proofs.SeatFacts.{seen_own}
-use Rattle.arena_list.specs.Made.{AreSeats, AreFirst, view_with, given, claimed_view}
+use Rattle.arena_list.specs.Made.{AreSeats, IsFirst, AreFirst, view_with, given, claimed_view}
+use Rattle.arena_list.specs.declared.mark.Mark.{Mark}
+use Rattle.arena_list.specs.declared.view.Hand.{Hand}
+use Rattle.arena_list.specs.declared.view.Hold.TheVariants.{Rests}
+use Rattle.arena_list.specs.declared.view.View.{View}
+use Rattle.arena_list.specs.Views.{mine, spare, out, when, unless}
+use Rattle.arena_list.specs.Views.{who as who_of}
+use Rattle.arena_list.specs.Seats.{view, IsSeatOf, IsAmong}
+use Rattle.arena_list.specs.After.{settled}
+use Rattle.arena_list.proofs.Dealing.{hand_who}
+use Rattle.arena_list.proofs.Marked.{fits_marked, fit_marked, nodes_marked}
 
 module _ {V : Type 0} (m : Meter V) (life : ℕ) (l l' s s' : List (Entry V)) (c c' : List ℕ) where
   pub fit_as : l' ≡ l → s' ≡ s → c' ≡ c → AreFit m life l s c → AreFit m life l' s' c'
@@ -57,20 +67,73 @@ entry_there : {V : Type 0} (m : Meter V) (life : ℕ) (linked spare : List (Entr
 entry_there m life linked spare callers fit i e at = entry_first (linked ++ spare) e.caller i e
     (λ k x low there. λ same. let one = all_once m life linked spare callers fit k i x e there at same in omega arith) at refl
 
-module _ {V : Type 0} (cd : Coded V) (m : Meter V) (list : ArenaList V) (fit : AreFit m list.table.shared.key.life list.table.shared.key.linked.items list.table.shared.key.spare.items list.table.shared.key.callers.items) (callers : List ℕ) (done : List (Entry V)) (seats : List ListSeat) where
+-- and among those of its kind
+module _ {V : Type 0} (m : Meter V) (life : ℕ) (linked spare : List (Entry V)) (callers : List ℕ) (fit : AreFit m life linked spare callers) where
+  linked_hand : (e : Entry V) → IsAmong linked e → hand_from linked spare e.caller ≡ fresh true e
+  linked_hand e t = hand_linked linked spare e.caller e (entry_first linked e.caller t.0 e
+      (λ k x low there. λ same. let one = fit.linked_once k t.0 e.caller (at_map caller linked k x there ∙ ap (λ (n : ℕ). some n) same) (at_map caller linked t.0 e t.1) in omega arith) t.1 refl)
+
+  spare_hand : (e : Entry V) → IsAmong spare e → hand_from linked spare e.caller ≡ fresh false e
+  spare_hand e t = hand_spare linked spare e.caller e
+      (entry_absent linked e.caller (λ k x there. λ same. let low = at_below linked k x there in
+      let one = all_once m life linked spare callers fit k (length linked + t.0) x e (at_more linked spare k x there) (at_behind linked spare t.0 e t.1) same in omega arith))
+      (entry_first spare e.caller t.0 e
+      (λ k x low there. λ same. let one = all_once m life linked spare callers fit (length linked + k) (length linked + t.0) x e (at_behind linked spare k x there) (at_behind linked spare t.0 e t.1) same in omega arith) t.1 refl)
+
+module _ {V : Type 0} (cd : Coded V) (m : Meter V) (list : ArenaList V) (fit : AreFit m list.table.shared.key.life list.table.shared.key.linked.items list.table.shared.key.spare.items list.table.shared.key.callers.items) where
   abbrev key : Founding V
   key = list.table.shared.key
 
-  own_entry : (i who : ℕ) → get_elem? key.callers.items i ≡ some who → (e : Entry V) × (entry_of (key.linked.items ++ key.spare.items) who ≡ Some e)
+  abbrev linked : List (Entry V)
+  linked = key.linked.items
+
+  abbrev spares : List (Entry V)
+  spares = key.spare.items
+
+  abbrev me : Entry V → Entry Mark
+  me = marked_entry cd m
+
+  abbrev seen_key : Founding Mark
+  seen_key = marked_founding cd m key
+
+  seen_fit : AreFit marks seen_key.life seen_key.linked.items seen_key.spare.items seen_key.callers.items
+  seen_fit = fit_marked cd m key.life linked spares key.callers.items fit
+
+  own_entry : (i who : ℕ) → get_elem? key.callers.items i ≡ some who → (e : Entry V) × (entry_of (linked ++ spares) who ≡ Some e)
   own_entry i who at = ⊎_elim
-      (λ t. (t.1, ap (entry_of (key.linked.items ++ key.spare.items)) (sym t.3) ∙ entry_there m key.life key.linked.items key.spare.items key.callers.items fit t.0 t.1 (at_more key.linked.items key.spare.items t.0 t.1 t.2)))
-      (λ t. (t.1, ap (entry_of (key.linked.items ++ key.spare.items)) (sym t.3) ∙ entry_there m key.life key.linked.items key.spare.items key.callers.items fit (length key.linked.items + t.0) t.1 (at_behind key.linked.items key.spare.items t.0 t.1 t.2)))
+      (λ t. (t.1, ap (entry_of (linked ++ spares)) (sym t.3) ∙ entry_there m key.life linked spares key.callers.items fit t.0 t.1 (at_more linked spares t.0 t.1 t.2)))
+      (λ t. (t.1, ap (entry_of (linked ++ spares)) (sym t.3) ∙ entry_there m key.life linked spares key.callers.items fit (length linked + t.0) t.1 (at_behind linked spares t.0 t.1 t.2)))
       (entry_for m key fit i who at)
 
-  pub are_first : key.callers.items ≡ callers → done ≡ key.linked.items ++ key.spare.items → AreSeats cd m key list.table.shared.table_id key.callers.items done seats → AreFirst cd m list callers seats
-  are_first p q o = record {
-    count = o.count ∙ ap length p;
-    each = λ i who s a b. let at = ap (λ (l : List ℕ). get_elem? l i) p ∙ a in let t = o.each i who s at b in let e = own_entry i who at in
-        (t.0, (e.0, e.1, t.1 ∙ ap (λ (l : List (Entry V)). view_with cd m key l who) q ∙ ap (given cd m (claimed_view (marked_founding cd m key) who)) e.1));
-    own = λ i s at. seen_own marks s.seated;
-  }
+  same_entry : (who : ℕ) (a b : Entry V) → entry_of (linked ++ spares) who ≡ Some a → IsAmong (linked ++ spares) b → b.caller ≡ who → a ≡ b
+  same_entry who a b is t own = let other = ap (entry_of (linked ++ spares)) (sym own) ∙ entry_there m key.life linked spares key.callers.items fit t.0 b t.1 in let one : Some a ≡ Some b = sym is ∙ other in cc
+
+  -- the seat of a caller whose entry was given
+  is_first : (i who : ℕ) (s : ListSeat) (e : Entry V) → get_elem? key.callers.items i ≡ some who → IsSeatOf list s → entry_of (linked ++ spares) who ≡ Some e
+      → view s ≡ settled marks (claimed_view seen_key who) (mark cd m e.part) → IsFirst cd m list linked spares who s
+  is_first i who s e at of is view_is = let p = entry_at (linked ++ spares) who e is in
+      let whose : who_of (view s) ≡ who = ap who_of view_is ∙ hand_who marks seen_key seen_fit i who at in record {
+        of_list = of;
+        who_is = whose;
+        entry = (e, (p.0, p.1), p.2);
+        own = λ j x a own. let h = ap (hand_from seen_key.linked.items seen_key.spare.items) (sym own) ∙ linked_hand marks seen_key.life seen_key.linked.items seen_key.spare.items seen_key.callers.items seen_fit (me x) (j, at_map me linked j x a) in
+            ap mine view_is ∙ ap (λ (y : Hand Mark). when y.linked y.slot) h;
+        beside = λ j x a own. let h = ap (hand_from seen_key.linked.items seen_key.spare.items) (sym own) ∙ spare_hand marks seen_key.life seen_key.linked.items seen_key.spare.items seen_key.callers.items seen_fit (me x) (j, at_map me spares j x a) in
+            ap spare view_is ∙ ap (λ (y : Hand Mark). unless y.linked y.slot) h;
+        own_value = λ j x a own. ap out view_is ∙ ap (λ (y : Entry V). Rests (mark cd m y.part)) (same_entry who e x is (j, at_more linked spares j x a) own);
+        beside_value = λ j x a own. ap out view_is ∙ ap (λ (y : Entry V). Rests (mark cd m y.part)) (same_entry who e x is (length linked + j, at_behind linked spares j x a) own);
+        rests = (mark cd m e.part, ap out view_is, subst (λ (w : ℕ). Fits marks key.life w (mark cd m e.part)) (p.2 ∙ sym whose) (fits_marked cd m key.life e.caller e.part (fit.parts p.0 e p.1)));
+        no_step = ap (λ (v : View Mark). v.list_steps) view_is;
+        seen_is = ap (λ (v : View Mark). v.seen) view_is ∙ nodes_marked cd m linked;
+        seen_own = seen_own marks s.seated;
+        base_is = ap (λ (v : View Mark). v.base) view_is;
+      }
+
+  module _ (linked' spares' : List (Entry V)) (callers : List ℕ) (done : List (Entry V)) (seats : List ListSeat) where
+    pub are_first : linked ≡ linked' → spares ≡ spares' → key.callers.items ≡ callers → done ≡ linked ++ spares → AreSeats cd m key list.table.shared.table_id key.callers.items done seats → AreFirst cd m list linked' spares' callers seats
+    are_first l p c q o = record {
+      count = o.count ∙ ap length c;
+      each = λ i who s a b. let at = ap (λ (l : List ℕ). get_elem? l i) c ∙ a in let t = o.each i who s at b in let e = own_entry i who at in
+          subst (λ (z : List (Entry V) × List (Entry V)). IsFirst cd m list z.0 z.1 who s) (λ i. (l i, p i))
+          (is_first i who s e.0 at t.0 e.1 (t.1 ∙ ap (λ (l : List (Entry V)). view_with cd m key l who) q ∙ ap (given cd m (claimed_view seen_key who)) e.1));
+    }

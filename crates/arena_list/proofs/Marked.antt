@@ -8,6 +8,7 @@ use lib.ListN.{get_elem?}
 use base.Stored.{Coded}
 use Rattle.arena_list.specs.declared.entry.Entry.{Entry}
 use Rattle.arena_list.specs.declared.mark.Mark.{Mark}
+use Rattle.arena_list.specs.Core.{slot_count}
 use Rattle.arena_list.specs.Founded.{Meter, Fits, AreFit, Differ, IsLaid, first_view, slot, caller, node_of, has, others_of, entry_of, hand_from, or_else, fresh}
 use Rattle.atomic_table.specs.Table.{Me, opening, Allows, Splits, Joins, Final, Seen}
 use Rattle.arena_list.specs.declared.founding.Founding.{Founding}
@@ -73,7 +74,7 @@ module _ {V : Type 0} (c : Coded V) (m : Meter V) where
   pub fit_marked : (life : ℕ) (linked spare : List (Entry V)) (callers : List ℕ) → AreFit m life linked spare callers → AreFit marks life (map me linked) (map me spare) callers
   fit_marked life linked spare callers f = let all : map me linked ++ map me spare ≡ map me (linked ++ spare) = sym (map-append me linked spare) in record {
     slots = subst Differ (sym (slots_marked (linked ++ spare)) ∙ ap (map slot) (sym all)) f.slots;
-    small = λ i e at. let p = at_mapped me (linked ++ spare) i e (ap (λ l. get_elem? l i) (sym all) ∙ at) in subst (λ (x : Entry Mark). x.slot < 64) p.2 (f.small i p.0 p.1);
+    small = λ i e at. let p = at_mapped me (linked ++ spare) i e (ap (λ l. get_elem? l i) (sym all) ∙ at) in subst (λ (x : Entry Mark). x.slot < slot_count) p.2 (f.small i p.0 p.1);
     linked_once = subst Differ (sym (callers_marked linked)) f.linked_once;
     callers_once = f.callers_once;
     some_caller = f.some_caller;
@@ -96,7 +97,7 @@ module _ {V : Type 0} (c : Coded V) (m : Meter V) where
     f = marked c m
 
     -- the rule holds at the start
-    pub opens_seen : (words : List ℕ) → AreFit m k.life k.linked.items k.spare.items k.callers.items → IsLaid m k.linked.items k.callers.items words → HoldsSeen c m k (opening words (replicate 64 None) (first_view (marked_founding c m k)))
+    pub opens_seen : (words : List ℕ) → AreFit m k.life k.linked.items k.spare.items k.callers.items → IsLaid m k.linked.items k.callers.items words → HoldsSeen c m k (opening words (replicate slot_count None) (first_view (marked_founding c m k)))
     opens_seen words fit laid = opens marks (marked_founding c m k) words (fit_marked k.life k.linked.items k.spare.items k.callers.items fit) (laid_marked k.linked.items k.callers.items words laid)
 
     pub step_seen : (slots id : ℕ) (own : Me (Option V) (View Mark)) (i : ℕ) (g : ℕ → ℕ) (then : ℕ → Me (Option Mark) (View Mark) → Type 0) → Allows (Holds marks (marked_founding c m k)) slots id (seen_me f own) i g then

@@ -1,5 +1,5 @@
 -- One seat steps: what the others know and hold stays as it was.
-use Rattle.std.proofs.Common.{◌≡◌, ℕ, ◌<◌, ◌≤◌, ◌≢◌, ◌⊎◌, List, [], ◌∷◌, length, set, sym, ap, subst, ◌∙◌, inl, inr, ⊎_elim, arith, Option}
+use Rattle.std.proofs.Common.{◌≡◌, ℕ, ◌<◌, ◌≤◌, ◌≢◌, ◌⊎◌, List, [], ◌∷◌, length, set, sym, refl, ap, subst, ◌∙◌, inl, inr, ⊎_elim, arith, Option}
 use Rattle.std.specs.Prelude.{slice_index}
 use mathlib.Core.Option as maybe
 use mathlib.Core.Option.{some, none, some-injective, some-ne-none}
@@ -12,11 +12,11 @@ use Rattle.arena_list.specs.declared.entry.Entry.{Entry}
 use Rattle.arena_list.specs.declared.founding.Founding.{Founding}
 use Rattle.arena_list.specs.declared.view.Node.{Node}
 use Rattle.arena_list.specs.declared.view.Hold.{Hold}
-use Rattle.arena_list.specs.declared.view.Hold.TheVariants.{Vacant, Filling, Away, Rests}
+use Rattle.arena_list.specs.declared.view.Hold.TheVariants.{Vacant, Filling, Moving, Away, Rests}
 use Rattle.arena_list.specs.declared.view.Hand.{Hand}
 use Rattle.arena_list.specs.declared.view.View.{View}
 use Rattle.arena_list.specs.Nodes.{node, Begins}
-use Rattle.arena_list.specs.Core.{Core, Standing, IsListed, CallersDiffer}
+use Rattle.arena_list.specs.Core.{Core, Standing, IsListed, CallersDiffer, slot_count}
 use Rattle.arena_list.specs.Words.{Show, node_at}
 use Rattle.arena_list.specs.Founded.{Meter}
 use Rattle.arena_list.specs.Rule.{Holds, HoldsAt, IsHand, Knows, IsWard, Stands, hand_count}
@@ -32,15 +32,16 @@ pub record Moves {V : Type 0} (c : Core) (holder : ℕ → maybe.Option ℕ) (wo
   pub callers : CallersDiffer c'.joined
   pub standing : (slot : ℕ) → slot ≢ h.slot → c'.standing slot ≡ c.standing slot
   pub used : (c.standing h.slot).used ≤ (c'.standing h.slot).used
-  pub nodes : (slot : ℕ) → slot < 64 → slot ≢ h.slot → slice_index words' (node_at slot) ≡ slice_index words (node_at slot)
+  pub nodes : (slot : ℕ) → slot < slot_count → slot ≢ h.slot → slice_index words' (node_at slot) ≡ slice_index words (node_at slot)
   pub homes_same : (slot : ℕ) → slot ≢ h.slot → get_elem? homes' slot ≡ get_elem? homes slot
   pub show : Show c' words'
-  pub slots : length homes' ≡ 64
+  pub slots : length homes' ≡ slot_count
 
 module _ {V : Type 0} (m : Meter V) (life : ℕ) where
   hold_moves : (c c' : Core) (hs hs' : Homes V) (g : Hand V) (x : Hold V) → c'.standing g.slot ≡ c.standing g.slot → get_elem? hs' g.slot ≡ get_elem? hs g.slot → HoldsAt m life c hs g x → HoldsAt m life c' hs' g x
   hold_moves c c' hs hs' g Vacant s t x = (s ∙ x.0, t ∙ x.1)
-  hold_moves c c' hs hs' g (Filling used) s t x = s ∙ x
+  hold_moves c c' hs hs' g Filling s t x = s ∙ x
+  hold_moves c c' hs hs' g (Moving used) s t x = (s ∙ x.0, x.1)
   hold_moves c c' hs hs' g (Away used) s t x = (s ∙ x.0, t ∙ x.1, x.2)
   hold_moves c c' hs hs' g (Rests part) s t x = (s ∙ x.0, t ∙ x.1, x.2)
 
@@ -140,3 +141,8 @@ module _ {V : Type 0} (m : Meter V) (k : Founding V) (s : State (Option V) (View
           stand = λ i who e. let x = r.stand i who e in (x.0, still slots whos x.0 who x.1);
           counted = let t = total-set hand_count s.views id v w at in let a : length v.hands ≡ 1 = ap length one in let b : length w.hands ≡ 1 = ap length one' in let e = r.counted in omega arith;
         }
+
+    pub moved_core : (bases : w.base ≡ v.base) (slots : h'.slot ≡ h.slot) (whos : h'.who ≡ h.who) (c' : Core) (words' : List ℕ) (homes' : Homes V) (step : Moves r.core r.holder s.words s.homes h c' words' homes')
+        (new : IsHand m k.life c' words' homes' r.holder r.place id 0 h') (knows : Knows c' w) → (moved bases slots whos c' words' homes' step new knows).core ≡ c'
+    unfolding moved
+    moved_core bases slots whos c' words' homes' step new knows = refl

@@ -14,7 +14,7 @@ use Rattle.arena_list.specs.declared.view.Node.{Node}
 use Rattle.arena_list.specs.declared.view.Hand.{Hand}
 use Rattle.arena_list.specs.declared.view.View.{View}
 use Rattle.arena_list.specs.Nodes.{before, node_word}
-use Rattle.arena_list.specs.Core.{Core, Standing, core, rests, away, IsListed}
+use Rattle.arena_list.specs.Core.{Core, Standing, core, rests, away, IsListed, slot_count}
 use Rattle.arena_list.specs.Words.{node_at, state_at, state_word, bit}
 use Rattle.arena_list.specs.Founded.{Meter, AreFit, IsLaid, Differ, has, slot, caller, node_of, entry_of, others_of, without, fresh, or_else, hand_for, first_view}
 use Rattle.arena_list.specs.Rule.{Holds, IsHand, Knows, Stands, IsOther}
@@ -212,7 +212,7 @@ module _ {V : Type 0} (m : Meter V) (k : Founding V) (words : List ℕ) (fit : A
   strangers = others_of linked callers
 
   abbrev homes : List (maybe.Option (Option V))
-  homes = map some (replicate 64 None)
+  homes = map some (replicate slot_count None)
 
   has_entry : (i who : ℕ) → get_elem? callers i ≡ some who → Has m k fit who
   has_entry i who at = entry_for m k fit i who at
@@ -236,8 +236,8 @@ module _ {V : Type 0} (m : Meter V) (k : Founding V) (words : List ℕ) (fit : A
   one_slot : (i j : ℕ) (a b : Entry V) → get_elem? all i ≡ some a → get_elem? all j ≡ some b → a.slot ≡ b.slot → a ≡ b
   one_slot i j a b p q e = let same = fit.slots i j b.slot (at_map slot all i a p ∙ ap (λ (z : ℕ). some z) e) (at_map slot all j b q) in at_one all j a b (ap (get_elem? all) (sym same) ∙ p) q
 
-  home_at : (s : ℕ) → s < 64 → get_elem? homes s ≡ some (some None)
-  home_at s low = at_map some (replicate 64 None) s None (nones 64 s low)
+  home_at : (s : ℕ) → s < slot_count → get_elem? homes s ≡ some (some None)
+  home_at s low = at_map some (replicate slot_count None) s None (nones slot_count s low)
 
   -- the slot of an entry whose caller has a seat shows nothing yet
   still_away : (i : ℕ) (e : Entry V) → get_elem? all i ≡ some e → ((j : ℕ) (o : Entry V) → get_elem? strangers j ≡ some o → o.caller ≢ e.caller) → standing e.slot ≡ away 0
@@ -314,7 +314,7 @@ module _ {V : Type 0} (m : Meter V) (k : Founding V) (words : List ℕ) (fit : A
       (at_append linked spare i e r.2)
 
   -- the rule holds at the start
-  pub opens : Holds m k (opening words (replicate 64 None) (first_view k))
+  pub opens : Holds m k (opening words (replicate slot_count None) (first_view k))
   unfolding c holder place standing
   opens = record {
     core = c;
@@ -332,7 +332,7 @@ module _ {V : Type 0} (m : Meter V) (k : Founding V) (words : List ℕ) (fit : A
         fit.linked_once i j q.0.caller (at_map caller linked i p.0 p.1 ∙ ap (λ (z : ℕ). some z) (ap (λ (n : Node). n.caller) p.2 ∙ same ∙ ap (λ (n : Node). n.caller) (sym q.2))) (at_map caller linked j q.0 q.1);
     hands = λ j i u h a b. let only = at_only v u j a in let here : get_elem? (map (hand_for k) callers) i ≡ some h = ap (λ (u : View V). get_elem? u.hands i) only.1 ∙ b in let q = at_mapped (hand_for k) callers i h here in
         (ap (λ (u : View V). u.base) (sym only.1), subst (λ (z : ℕ × Hand V). IsHand m k.life c words homes holder place z.0 i z.1) (λ x. (sym only.0 x, q.2 x)) (fresh_hand i q.0 q.1));
-    known = λ j u a. subst (λ (u : View V). Knows c u) (at_only v u j a).1 record { seen = begins_itself (map node_of linked); room = refl; pasts = λ i nodes e. absurd (some-ne-none nodes (sym e)); sizes = λ s. let z = zeros 64 s in omega arith };
+    known = λ j u a. subst (λ (u : View V). Knows c u) (at_only v u j a).1 record { seen = begins_itself (map node_of linked); room = refl; pasts = λ i nodes e. absurd (some-ne-none nodes (sym e)); sizes = λ s. let z = zeros slot_count s in omega arith };
     wards = λ i e a. let p = filter_tells (λ e. not (has callers e.caller)) linked i e a in let there = in_linked p.0 e p.1 in record {
       slot = fit.small p.0 e there;
       held = held_at all fit.slots p.0 e there;

@@ -15,7 +15,7 @@ use Rattle.arena_list.specs.declared.mark.Mark.{Mark}
 use Rattle.arena_list.specs.declared.view.View.{View}
 use Rattle.arena_list.specs.Views.{who, out}
 use Rattle.arena_list.specs.Founded.{Meter, AreFit, has, entry_of}
-use Rattle.arena_list.specs.Steps.{IsOut, used_now, settled}
+use Rattle.arena_list.specs.After.{IsOut, used_now, settled}
 use Rattle.arena_list.specs.Made.{AreSeats, Places, claimed_view, given}
 use Rattle.arena_list.specs.Marks.{marks, mark, marked_founding}
 use Rattle.arena_list.specs.Seats.{view}

@@ -8,23 +8,26 @@ use Rattle.atomic_table.specs.Table.{rest as rest_of_slots}
 use prog.Atomic.{either}
 use Rattle.atomic_table.specs.Table.{Step, step, Allows}
 use Rattle.arena_list.specs.declared.founding.Founding.{Founding}
+use Rattle.arena_list.specs.Core.{slot_count}
 use Rattle.arena_list.specs.Nodes.{node_word}
 use Rattle.arena_list.specs.Words.{node_at, state_at}
 use Rattle.arena_list.specs.Rule.{Holds}
-use Rattle.arena_list.specs.Steps.{stored_node, took, emptied, claimed, gave, IsOut, saw_size, sized}
+use Rattle.arena_list.specs.After.{IsOut, sized, looked, counted, joined, held, settled, noted, next_link, own_node, used_now, with_seat}
+use Rattle.arena_list.specs.Steps.{stored_node, took, emptied, claimed, gave, saw_size}
 use Rattle.arena_list.specs.Founded.{Fits}
-use Rattle.arena_list.proofs.States.{takes_slot, claims, empties, gives_slot, sizes_up}
+use Rattle.arena_list.specs.Moments.{SeenGive}
+use Rattle.arena_list.proofs.States.{IsWithSeat, takes_slot, claims, empties, gives_slot, sizes_up}
 use Rattle.arena_list.proofs.Keeps.{notes}
 use Rattle.arena_list.proofs.Linking.{links}
 use Rattle.arena_list.specs.declared.view.Node.{Node}
 use Rattle.arena_list.specs.declared.view.Hold.{Hold}
-use Rattle.arena_list.specs.declared.view.Hold.TheVariants.{Filling, Away, Rests}
+use Rattle.arena_list.specs.declared.view.Hold.TheVariants.{Vacant, Filling, Moving, Away, Rests}
 use Rattle.arena_list.specs.declared.view.Hand.{Hand}
 use Rattle.arena_list.specs.declared.view.View.{View}
 use Rattle.arena_list.specs.Nodes.{node, before, head_of, Begins, HasNode, LacksNode}
-use Rattle.arena_list.specs.Views.{hand, first_hand, mine, when, HasSeenOwn}
+use Rattle.arena_list.specs.Views.{hand, first_hand, mine, spare, when, unless, HasSeenOwn}
 use Rattle.arena_list.specs.Founded.{Meter}
-use Rattle.arena_list.specs.Steps.{Sat, Sees, IsSeated, looked, counted, joined, held, settled, noted, next_link, own_node, used_now, saw_head, tried_link}
+use Rattle.arena_list.specs.Steps.{Sat, Sees, IsSeated, saw_head, tried_link}
 use Rattle.arena_list.proofs.Links.{before_small, head_more, has_node}
 
 -- what a list doesn't have, none has that begins it
@@ -44,6 +47,18 @@ module _ {V : Type 0} where
     told true t e = absurd (none-some t (sym e))
     told false t e = refl
 
+  pub mine_is : (v : View V) (s : ℕ) → (hand v).linked ≡ true → s ≡ (hand v).slot → mine v ≡ Some s
+  mine_is v s is at = ap (λ (b : Bool). when b (hand v).slot) is ∙ ap Some (sym at)
+
+  pub spare_tells : (v : View V) (s : ℕ) → spare v ≡ Some s → ((hand v).linked ≡ false) × ((hand v).slot ≡ s)
+  spare_tells v s e = told (hand v).linked (hand v).slot s e where
+    told : (b : Bool) (t s : ℕ) → unless b t ≡ Some s → (b ≡ false) × (t ≡ s)
+    told false t s e = (refl, cc)
+    told true t s e = absurd (none-some s e)
+
+  pub spare_is : (v : View V) (s : ℕ) → (hand v).linked ≡ false → s ≡ (hand v).slot → spare v ≡ Some s
+  spare_is v s is at = ap (λ (b : Bool). unless b (hand v).slot) is ∙ ap Some (sym at)
+
   first_of : Option V → List (ℕ × Option V) → Option V
   first_of d [] = d
   first_of d (x ∷ xs) = x.1
@@ -57,13 +72,27 @@ module _ {V : Type 0} where
   unfolding first_of
   same_value l slot y part other a b is = let found : Some part ≡ y = ap (first_of None) (sym a ∙ b) in cc
 
-  pub took_out : (m : Meter V) (part : V) (slot : ℕ) (me me' : Sat V) → me' ≡ (held me.0 (Filling (m.used part)), ((hand me.0).slot, Some part) ∷ me.1) → (hand me.0).slot ≡ slot → me.1 ≡ []
-      → me' ≡ (held me.0 (Filling (m.used part)), (slot, Some part) ∷ [])
-  took_out m part slot me me' is at free = is ∙ (λ i. (held me.0 (Filling (m.used part)), (at i, Some part) ∷ free i))
+  pub took_out : (m : Meter V) (part : V) (slot : ℕ) (me me' : Sat V) → me' ≡ (held me.0 (Moving (m.used part)), ((hand me.0).slot, Some part) ∷ me.1) → (hand me.0).slot ≡ slot → me.1 ≡ []
+      → me' ≡ (held me.0 (Moving (m.used part)), (slot, Some part) ∷ [])
+  took_out m part slot me me' is at free = is ∙ (λ i. (held me.0 (Moving (m.used part)), (at i, Some part) ∷ free i))
+
+  used_with : (m : Meter V) (x : Hold V) → used_now m (with_seat x) ≡ used_now m x
+  used_with m Vacant = refl
+  used_with m Filling = refl
+  used_with m (Moving used) = refl
+  used_with m (Away used) = refl
+  used_with m (Rests part) = refl
+
+  comes_with : (x : Hold V) → IsOut x → IsWithSeat (with_seat x)
+  comes_with Vacant out = tt
+  comes_with Filling out = absurd out
+  comes_with (Moving used) out = absurd out
+  comes_with (Away used) out = tt
+  comes_with (Rests part) out = absurd out
 
   -- the view while the seat holds its slot
   abbrev pub filling : Meter V → Sat V → View V
-  filling m me = held me.0 (Filling (used_now m (hand me.0).hold))
+  filling m me = held me.0 (with_seat (hand me.0).hold)
 
   pub gave_after : (m : Meter V) (st : Step (Option V)) (r slot : ℕ) (part : V) (me me' me'' : Sat V) → me' ≡ (filling m me, (slot, Some part) ∷ []) → slot ≡ (hand me.0).slot → gave m st me' r me'' → me'' ≡ (settled m me.0 part, [])
   gave_after m st r slot part me me' me'' is at told = (told part [] (ap (λ (x : Sat V). x.1) is ∙ (λ i. (at i, Some part) ∷ []) ∙ ap (λ (x : Sat V). ((hand x.0).slot, Some part) ∷ []) (sym is))).0 ∙ ap (λ (x : Sat V). (settled m x.0 part, [])) is
@@ -73,6 +102,11 @@ module _ {V : Type 0} where
   gave_more m st r slot part me me' me'' is at told = let t = (told part [] (ap (λ (x : Sat V). x.1) is ∙ (λ i. (at i, Some part) ∷ []) ∙ ap (λ (x : Sat V). ((hand x.0).slot, Some part) ∷ []) (sym is))).1 in
       let e = ap (λ (x : Sat V). slice_index x.0.sizes (hand x.0).slot) is in omega arith
 
+  -- and the step is a give
+  pub gave_seen : (m : Meter V) (st : Step (Option V)) (r slot : ℕ) (part : V) (me me' me'' : Sat V) → me' ≡ (filling m me, (slot, Some part) ∷ []) → slot ≡ (hand me.0).slot → gave m st me' r me'' → SeenGive m me.0.base (filling m me) part
+  gave_seen m st r slot part me me' me'' is at told = subst (λ (x : Sat V). SeenGive m x.0.base x.0 part) is
+      (told part [] (ap (λ (x : Sat V). x.1) is ∙ (λ i. (at i, Some part) ∷ []) ∙ ap (λ (x : Sat V). ((hand x.0).slot, Some part) ∷ []) (sym is))).2
+
 -- what a seat keeps tells that it has seen the caller's own node
 pub seen_own : {V : Type 0} (m : Meter V) {caller slot used head : ℕ} {linked : Bool} {me : Sat V} → IsSeated m caller slot linked used head me → HasSeenOwn me.0
 seen_own m {caller = caller} {slot = slot} {me = me} o at is = let told = mine_tells me.0 at is in let has = has_node me.0.seen slot caller (o.own (o.linked_is ∙ told.0)) in
@@ -80,7 +114,7 @@ seen_own m {caller = caller} {slot = slot} {me = me} o at is = let told = mine_t
 
 module _ {V : Type 0} (m : Meter V) {caller slot used head : ℕ} {linked : Bool} {me : Sat V} where
   -- a step that leaves the hands
-  pub seated_as : (head' : ℕ) (me' : Sat V) → me'.0.hands ≡ me.0.hands → me'.1 ≡ me.1 → head' ≡ head_of me'.0.seen → next_link me'.0 ≤ 64 → length me'.0.seen ≤ 64 → (linked ≡ false → length me'.0.seen < 64) → (linked ≡ true → ¬ LacksNode me'.0.seen slot caller)
+  pub seated_as : (head' : ℕ) (me' : Sat V) → me'.0.hands ≡ me.0.hands → me'.1 ≡ me.1 → head' ≡ head_of me'.0.seen → next_link me'.0 ≤ slot_count → length me'.0.seen ≤ slot_count → (linked ≡ false → length me'.0.seen < slot_count) → (linked ≡ true → ¬ LacksNode me'.0.seen slot caller)
       → IsSeated m caller slot linked used head me → IsSeated m caller slot linked used head' me'
   seated_as head' me' hands carries is link few fewer own o = let h : hand me'.0 ≡ hand me.0 = ap first_hand hands in record {
     one = ap length hands ∙ o.one;
@@ -106,7 +140,7 @@ module _ {V : Type 0} (m : Meter V) {caller slot used head : ℕ} {linked : Bool
   -- after a step that changes the count alone
   pub seated_count : (me' : Sat V) → me' ≡ (counted me.0, me.1) → IsSeated m caller slot linked used head me → IsSeated m caller slot linked used head me'
   seated_count me' is o = let seen : me'.0.seen ≡ me.0.seen = ap (λ (x : Sat V). x.0.seen) is in seated_as head me' (ap (λ (x : Sat V). x.0.hands) is) (ap (λ (x : Sat V). x.1) is) (o.head_is ∙ ap head_of (sym seen))
-      (subst (λ (l : List Node). before l (length l) ≤ 64) (sym seen) o.link_small) (subst (λ (l : List Node). length l ≤ 64) (sym seen) o.few) (λ e. subst (λ (l : List Node). length l < 64) (sym seen) (o.fewer e)) (λ e. subst (λ (l : List Node). ¬ LacksNode l slot caller) (sym seen) (o.own e)) o
+      (subst (λ (l : List Node). before l (length l) ≤ slot_count) (sym seen) o.link_small) (subst (λ (l : List Node). length l ≤ slot_count) (sym seen) o.few) (λ e. subst (λ (l : List Node). length l < slot_count) (sym seen) (o.fewer e)) (λ e. subst (λ (l : List Node). ¬ LacksNode l slot caller) (sym seen) (o.own e)) o
 
   -- the numbers in the head that was seen
   pub head_count : IsSeated m caller slot linked used head me → head / 2 ^ 32 ≡ length me.0.seen
@@ -180,10 +214,10 @@ module _ {V : Type 0} (m : Meter V) {caller slot used head : ℕ} {linked : Bool
     head_is = o.head_is ∙ ap head_of (sym seen);
     slot_small = o.slot_small;
     used_small = small;
-    link_small = subst (λ (l : List Node). before l (length l) ≤ 64) (sym seen) o.link_small;
+    link_small = subst (λ (l : List Node). before l (length l) ≤ slot_count) (sym seen) o.link_small;
     own = λ e. subst (λ (l : List Node). ¬ LacksNode l slot caller) (sym seen) (o.own e);
-    few = subst (λ (l : List Node). length l ≤ 64) (sym seen) o.few;
-    fewer = λ e. subst (λ (l : List Node). length l < 64) (sym seen) (o.fewer e);
+    few = subst (λ (l : List Node). length l ≤ slot_count) (sym seen) o.few;
+    fewer = λ e. subst (λ (l : List Node). length l < slot_count) (sym seen) (o.fewer e);
     free = carries;
   }
 
@@ -203,25 +237,25 @@ module _ {V : Type 0} (m : Meter V) {caller slot used head : ℕ} {linked : Bool
   claimed_none me' o is = is ∙ (λ i. (filling m me, (sym o.slot_is i, None) ∷ o.free i))
 
   -- the load that gives the emptied slot back
-  pub empty_step : (k : Founding V) (slots id word : ℕ) (me' : Sat V) → IsSeated m caller slot linked used head me → linked ≡ true → me' ≡ (held me.0 (Filling used), (slot, None) ∷ []) → word ≡ 80 + 8 * slot
+  pub empty_step : (k : Founding V) (slots id word : ℕ) (me' : Sat V) → IsSeated m caller slot linked used head me → linked ≡ true → me' ≡ (held me.0 (Moving used), (slot, None) ∷ []) → word ≡ 80 + 8 * slot
       → Allows (Holds m k) slots id me' word (λ n. n) (emptied (step slots word 0 0 none) me')
   empty_step k slots id word me' o is_linked after at = subst (λ (z : ℕ × Sat V). Allows (Holds m k) slots id z.1 z.0 (λ n. n) (emptied (step slots z.0 0 0 none) z.1)) (λ i. (sym (at ∙ ap state_at o.slot_is) i, sym after i))
-      (empties m k slots id used (held me.0 (Filling used), (slot, None) ∷ []) [] refl (sym o.linked_is ∙ is_linked) refl (ap (λ (s : ℕ). (s, None) ∷ []) o.slot_is))
+      (empties m k slots id used (held me.0 (Moving used), (slot, None) ∷ []) [] refl (sym o.linked_is ∙ is_linked) refl (ap (λ (s : ℕ). (s, None) ∷ []) o.slot_is))
 
-  pub emptied_after : (st : Step (Option V)) (r : ℕ) (me' me'' : Sat V) → IsSeated m caller slot linked used head me → me' ≡ (held me.0 (Filling used), (slot, None) ∷ []) → emptied st me' r me'' → me'' ≡ (held me.0 (Away used), [])
+  pub emptied_after : (st : Step (Option V)) (r : ℕ) (me' me'' : Sat V) → IsSeated m caller slot linked used head me → me' ≡ (held me.0 (Moving used), (slot, None) ∷ []) → emptied st me' r me'' → me'' ≡ (held me.0 (Away used), [])
   emptied_after st r me' me'' o is told = told used [] (ap (λ (x : Sat V). (hand x.0).hold) is) (ap (λ (x : Sat V). x.1) is ∙ (λ i. (o.slot_is i, None) ∷ []) ∙ ap (λ (x : Sat V). ((hand x.0).slot, None) ∷ []) (sym is)) ∙ ap (λ (x : Sat V). (held x.0 (Away used), [])) is
 
   -- the store that gives the value
   pub give_step : (k : Founding V) (slots id word new : ℕ) (me' : Sat V) (part : V) → IsSeated m caller slot linked used head me → me' ≡ (filling m me, (slot, Some part) ∷ []) → used_now m (hand me.0).hold ≤ m.used part → Fits m k.life (hand me.0).who part
-      → word ≡ 80 + 8 * slot → new ≡ 2 * m.used part + 1 → Allows (Holds m k) slots id me' word (λ _. new) (λ _. gave m (step slots word new 0 none) me' new)
-  give_step k slots id word new me' part o after more fits at is = subst (λ (z : ℕ × Sat V). Allows (Holds m k) slots id z.1 z.0 (λ _. new) (λ _. gave m (step slots z.0 new 0 none) z.1 new)) (λ i. (sym (at ∙ ap state_at o.slot_is) i, sym after i))
-      (gives_slot m k slots id new (filling m me, (slot, Some part) ∷ []) part [] refl (ap (λ (s : ℕ). (s, Some part) ∷ []) o.slot_is) more fits is)
+      → word ≡ 80 + 8 * slot → new ≡ 2 * m.used part + 1 → IsOut (hand me.0).hold → Allows (Holds m k) slots id me' word (λ _. new) (λ _. gave m (step slots word new 0 none) me' new)
+  give_step k slots id word new me' part o after more fits at is out = subst (λ (z : ℕ × Sat V). Allows (Holds m k) slots id z.1 z.0 (λ _. new) (λ _. gave m (step slots z.0 new 0 none) z.1 new)) (λ i. (sym (at ∙ ap state_at o.slot_is) i, sym after i))
+      (gives_slot m k slots id new (filling m me, (slot, Some part) ∷ []) part [] refl (ap (λ (s : ℕ). (s, Some part) ∷ []) o.slot_is) (comes_with (hand me.0).hold out) (let e = used_with m (hand me.0).hold in omega arith) fits is)
 
   -- after a load of a state
   pub seated_sized : (i used' : ℕ) (me' : Sat V) → me' ≡ (sized me.0 i used', me.1) → IsSeated m caller slot linked used head me → IsSeated m caller slot linked used head me'
   seated_sized i used' me' is o = let seen : me'.0.seen ≡ me.0.seen = ap (λ (x : Sat V). x.0.seen) is in seated_as head me' (ap (λ (x : Sat V). x.0.hands) is) (ap (λ (x : Sat V). x.1) is) (o.head_is ∙ ap head_of (sym seen))
-      (subst (λ (l : List Node). before l (length l) ≤ 64) (sym seen) o.link_small) (subst (λ (l : List Node). length l ≤ 64) (sym seen) o.few) (λ e. subst (λ (l : List Node). length l < 64) (sym seen) (o.fewer e)) (λ e. subst (λ (l : List Node). ¬ LacksNode l slot caller) (sym seen) (o.own e)) o
+      (subst (λ (l : List Node). before l (length l) ≤ slot_count) (sym seen) o.link_small) (subst (λ (l : List Node). length l ≤ slot_count) (sym seen) o.few) (λ e. subst (λ (l : List Node). length l < slot_count) (sym seen) (o.fewer e)) (λ e. subst (λ (l : List Node). ¬ LacksNode l slot caller) (sym seen) (o.own e)) o
 
   -- the load of a state
-  pub size_step : (k : Founding V) (slots id word i : ℕ) → IsSeated m caller slot linked used head me → i < 64 → word ≡ 80 + 8 * i → Allows (Holds m k) slots id me word (λ n. n) (saw_size m (step slots word 0 0 none) me)
+  pub size_step : (k : Founding V) (slots id word i : ℕ) → IsSeated m caller slot linked used head me → i < slot_count → word ≡ 80 + 8 * i → Allows (Holds m k) slots id me word (λ n. n) (saw_size m (step slots word 0 0 none) me)
   size_step k slots id word i o low at = subst (λ (w : ℕ). Allows (Holds m k) slots id me w (λ n. n) (saw_size m (step slots w 0 0 none) me)) (sym at) (sizes_up m k slots id i me o.one low)

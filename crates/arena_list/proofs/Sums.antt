@@ -10,11 +10,13 @@ use Rattle.atomic_table.proofs.Lists.{drop_at}
 use Rattle.arena_list.specs.declared.view.Node.{Node}
 use Rattle.arena_list.specs.declared.view.Hand.{Hand}
 use Rattle.arena_list.specs.declared.view.View.{View}
+use Rattle.arena_list.specs.Core.{slot_count}
 use Rattle.arena_list.specs.Nodes.{node, before, node_word, Begins}
 use Rattle.arena_list.specs.Views.{hand, out, shown, sum_seen}
 use Rattle.arena_list.specs.Founded.{Meter}
 use Rattle.arena_list.specs.Moments.{SeenList, SeenSize}
-use Rattle.arena_list.specs.Steps.{Sees, looked, counted, settled, sized, used_now}
+use Rattle.arena_list.specs.After.{looked, counted, settled, sized, used_now}
+use Rattle.arena_list.specs.Steps.{Sees}
 use Rattle.arena_list.specs.Calls.{WasShown, IsSumming, HasSummed}
 use Rattle.arena_list.proofs.Lists.{at_there, at_one, at_below, begins_itself}
 use Rattle.arena_list.proofs.Links.{before_at, before_small, past_end}
@@ -99,7 +101,7 @@ module _ {V : Type 0} (m : Meter V) (v : View V) (sees : Sees (hand v) v.seen) w
     shown = λ k n low e. absurd (let b = at_below v.seen k n e in omega arith);
   }
 
-  pub sum_node : (w : View V) (left link sum : ℕ) → IsSumming m v w left link sum → 0 < left → (n : Node) × (get_elem? v.seen (left - 1) ≡ some n) × (link ≡ n.slot + 1) × (n.slot < 64)
+  pub sum_node : (w : View V) (left link sum : ℕ) → IsSumming m v w left link sum → 0 < left → (n : Node) × (get_elem? v.seen (left - 1) ≡ some n) × (link ≡ n.slot + 1) × (n.slot < slot_count)
   sum_node w zero link sum o h = absurd (omega arith)
   sum_node w (suc k) link sum o h = let t = at_there v.seen k (let a = o.within in omega arith) in
       let here : get_elem? v.seen (suc k - 1) ≡ some t.0 = ap (get_elem? v.seen) (let z : suc k - 1 ≡ k = omega arith in z) ∙ t.1 in
@@ -114,7 +116,7 @@ module _ {V : Type 0} (m : Meter V) (v : View V) (sees : Sees (hand v) v.seen) w
       let seen : w.seen ≡ v.seen = ap (λ (z : View V). z.seen) o.same in
       let slot_is : slot ≡ n.slot = (let a = t.2 in omega arith) in
       let is : word ≡ node_word n.caller (before v.seen (left - 1)) = read (left - 1) n (ap (λ (l : List Node). get_elem? l (left - 1)) seen ∙ t.1) slot_is ∙ ap (λ (l : List Node). node_word n.caller (before l (left - 1))) seen in
-      let previous : before v.seen (left - 1) ≤ 64 = before_small v.seen sees.small (left - 1) in
+      let previous : before v.seen (left - 1) ≤ slot_count = before_small v.seen sees.small (left - 1) in
       let sizes : u.sizes ≡ set w.sizes slot used = ap (λ (z : View V). z.sizes) step ∙ ap (λ (z : View V). set z.sizes slot used) count in
       let whole : x ≡ record v { list_steps = x.list_steps; sizes = x.sizes } = count ∙ ap (λ (z : View V). counted z) o.same ∙ (λ i. record v { list_steps = (ap (λ (z : View V). z.list_steps) (sym count)) i; sizes = (ap (λ (z : View V). z.sizes) (sym count)) i }) in
       let next : drop (left - 1) v.seen ≡ n ∷ drop left v.seen = drop_at v.seen (left - 1) n t.1 ∙ ap (λ (k : ℕ). n ∷ drop k v.seen) (let z : suc (left - 1) ≡ left = omega arith in z) in
@@ -174,7 +176,8 @@ module _ {V : Type 0} (m : Meter V) (v : View V) (sees : Sees (hand v) v.seen) w
         earlier = (let a = sum_begins old.sizes w.sizes old.seen w.seen on grown in omega arith);
         grown = grown;
         steps = (let a = o.steps in let l : length w.seen ≡ length v.seen = ap length seen in omega arith);
-        few = subst (λ (l : List Node). length l ≤ 64) (sym seen) sees.few;
+        few_steps = (let a = o.steps in let f = sees.few in omega arith);
+        few = subst (λ (l : List Node). length l ≤ slot_count) (sym seen) sees.few;
         seen = on;
         hands = ap (λ (z : View V). z.hands) o.same ∙ ap (λ (z : View V). z.hands) look;
         base = ap (λ (z : View V). z.base) o.same ∙ ap (λ (z : View V). z.base) look;

@@ -9,11 +9,13 @@ use Rattle.std.proofs.lemmas.Bool.{cases_Bool}
 use Rattle.arena_list.specs.declared.view.Node.{Node}
 use Rattle.arena_list.specs.declared.view.Hand.{Hand}
 use Rattle.arena_list.specs.declared.view.View.{View}
+use Rattle.arena_list.specs.Core.{slot_count}
 use Rattle.arena_list.specs.Nodes.{node, before, head_of, node_word, Begins}
 use Rattle.arena_list.specs.Views.{hand, who, mine, spare, when, unless, HasSeenOwn}
 use Rattle.arena_list.specs.Founded.{Meter}
-use Rattle.arena_list.specs.Moments.{SeenList}
-use Rattle.arena_list.specs.Steps.{Sees, looked, counted, noted, own_node, joined}
+use Rattle.arena_list.specs.Moments.{SeenList, SeenJoin}
+use Rattle.arena_list.specs.After.{looked, counted, noted, own_node, joined}
+use Rattle.arena_list.specs.Steps.{Sees}
 use Rattle.arena_list.specs.Calls.{Lacks, HasFound, HasTried, HasJoined, IsWalking}
 use Rattle.arena_list.proofs.Lists.{at_below, at_there, at_one, begins_itself, begins_on, begins_more}
 use Rattle.arena_list.proofs.Links.{before_at, before_small}
@@ -31,17 +33,17 @@ module _ {V : Type 0} (v : View V) (sees : Sees (hand v) v.seen) where
   }
 
   -- the node to come
-  pub walk_node : (w : View V) (left link : ℕ) → IsWalking v w left link → 0 < left → (n : Node) × (get_elem? v.seen (left - 1) ≡ some n) × (link ≡ n.slot + 1) × (n.slot < 64)
+  pub walk_node : (w : View V) (left link : ℕ) → IsWalking v w left link → 0 < left → (n : Node) × (get_elem? v.seen (left - 1) ≡ some n) × (link ≡ n.slot + 1) × (n.slot < slot_count)
   walk_node w zero link o h = absurd (omega arith)
   walk_node w (suc k) link o h = let t = at_there v.seen k (let a = o.within in omega arith) in
       let here : get_elem? v.seen (suc k - 1) ≡ some t.0 = ap (get_elem? v.seen) (let z : suc k - 1 ≡ k = omega arith in z) ∙ t.1 in
       (t.0, here, o.link_is ∙ before_at v.seen k t.0 t.1, sees.small k t.0 t.1)
 
   -- what its word holds
-  pub word_parts : (word caller previous : ℕ) → word ≡ node_word caller previous → previous ≤ 64 → (word / 2 ^ 32 ≡ caller) × (word % 2 ^ 32 ≡ previous)
+  pub word_parts : (word caller previous : ℕ) → word ≡ node_word caller previous → previous ≤ slot_count → (word / 2 ^ 32 ≡ caller) × (word % 2 ^ 32 ≡ previous)
   word_parts word caller previous e h = (omega arith, omega arith)
 
-  previous_small : (k : ℕ) → before v.seen k ≤ 64
+  previous_small : (k : ℕ) → before v.seen k ≤ slot_count
   previous_small k = before_small v.seen sees.small k
 
   -- what reading it showed
@@ -91,14 +93,14 @@ module _ {V : Type 0} (v : View V) (sees : Sees (hand v) v.seen) where
       let slots = own_slot (left - 1) n t.1 c in
       let steps : u.list_steps ≡ w.list_steps + 1 = ap (λ (x : View V). x.list_steps) step in let began : v.list_steps ≡ old.list_steps + 1 = ap (λ (x : View V). x.list_steps) look in record {
         looked = subst (λ (l : List Node). SeenList m old.base old l) (sym seen) moment;
-        found = (left - 1, ap (λ (l : List Node). get_elem? l (left - 1)) seen ∙ t.1 ∙ ap some n_is);
+        found = record { place = left - 1; node_is = ap (λ (l : List Node). get_elem? l (left - 1)) seen ∙ t.1 ∙ ap some n_is; steps = (let a = o.steps in let b = o.within in let e : length u.seen ≡ length v.seen = ap length seen in omega arith) };
         none = tt;
         earlier = shown_grows old u (subst (λ (l : List Node). Begins old.seen l) (sym seen) begins) (ap (λ (x : View V). x.sizes) step ∙ ap (λ (x : View V). x.sizes) o.same ∙ ap (λ (x : View V). x.sizes) look);
         mine_is = (λ i. Some ((at ∙ t.2 ∙ slots.1) i)) ∙ ap (λ (b : Bool). when b (hand v).slot) (sym slots.0) ∙ ap (λ (h : Hand V). when h.linked h.slot) (sym same_hand);
         own = seen_own;
         some_step = (let a = o.steps in let b = o.within in omega arith);
-        steps = (let a = o.steps in let e : length u.seen ≡ length v.seen = ap length seen in omega arith);
-        few = subst (λ (l : List Node). length l ≤ 64) (sym seen) sees.few;
+        few_steps = (let a = o.steps in let f = sees.few in omega arith);
+        few = subst (λ (l : List Node). length l ≤ slot_count) (sym seen) sees.few;
         seen = subst (λ (l : List Node). Begins old.seen l) (sym seen) begins;
         hands = ap (λ (x : View V). x.hands) step ∙ ap (λ (x : View V). x.hands) o.same ∙ ap (λ (x : View V). x.hands) look;
         sizes = ap (λ (x : View V). x.sizes) step ∙ ap (λ (x : View V). x.sizes) o.same ∙ ap (λ (x : View V). x.sizes) look;
@@ -112,15 +114,15 @@ module _ {V : Type 0} (v : View V) (sees : Sees (hand v) v.seen) where
         looked = subst (λ (l : List Node). SeenList m old.base old l) (sym seen) moment;
         found = tt;
         earlier = shown_grows old w (subst (λ (l : List Node). Begins old.seen l) (sym seen) begins) (ap (λ (x : View V). x.sizes) o.same ∙ ap (λ (x : View V). x.sizes) look);
-        none = λ k n e. λ c. o.past k n (omega arith) (ap (λ (l : List Node). get_elem? l k) (sym seen) ∙ e) (c ∙ ap (λ (h : Hand V). h.who) same_hand);
+        none = record { lacks = λ k n e. λ c. o.past k n (omega arith) (ap (λ (l : List Node). get_elem? l k) (sym seen) ∙ e) (c ∙ ap (λ (h : Hand V). h.who) same_hand); steps = (let a = o.steps in let e : length w.seen ≡ length v.seen = ap length seen in omega arith) };
         mine_is = ⊎_elim
             (λ t. let own = sees.linked t in absurd (o.past own.0 (node (hand v).slot (hand v).who) (omega arith) own.1 refl))
             (λ f. ap (λ (b : Bool). when b (hand v).slot) (sym f) ∙ ap (λ (h : Hand V). when h.linked h.slot) (sym same_hand))
             (cases_Bool (hand v).linked);
         own = seen_own;
         some_step = (let a = o.steps in omega arith);
-        steps = (let a = o.steps in let e : length w.seen ≡ length v.seen = ap length seen in omega arith);
-        few = subst (λ (l : List Node). length l ≤ 64) (sym seen) sees.few;
+        few_steps = (let a = o.steps in let f = sees.few in omega arith);
+        few = subst (λ (l : List Node). length l ≤ slot_count) (sym seen) sees.few;
         seen = subst (λ (l : List Node). Begins old.seen l) (sym seen) begins;
         hands = ap (λ (x : View V). x.hands) o.same ∙ ap (λ (x : View V). x.hands) look;
         sizes = ap (λ (x : View V). x.sizes) o.same ∙ ap (λ (x : View V). x.sizes) look;
@@ -130,7 +132,7 @@ module _ {V : Type 0} (v : View V) (sees : Sees (hand v) v.seen) where
 -- ---- the tries of a join
 module _ {V : Type 0} (v : View V) where
   pub tries_none : HasTried v v
-  tries_none = record { who_is = refl; slot = refl; linked = refl; hold = refl; steps = omega arith; seen = begins_itself v.seen; sizes = refl; base = refl }
+  tries_none = record { who_is = refl; slot = refl; linked = refl; hold = refl; more_steps = omega arith; steps = omega arith; seen = begins_itself v.seen; sizes = refl; base = refl }
 
   pub tries_again : (w u : View V) → HasTried v w → u ≡ looked (noted w) u.seen → Begins w.seen u.seen → length w.seen < length u.seen → HasTried v u
   tries_again w u o is begins more = let steps : u.list_steps ≡ w.list_steps + 1 + 1 = ap (λ (x : View V). x.list_steps) is in record {
@@ -138,24 +140,27 @@ module _ {V : Type 0} (v : View V) where
     slot = ap (λ (x : View V). (hand x).slot) is ∙ o.slot;
     linked = ap (λ (x : View V). (hand x).linked) is ∙ o.linked;
     hold = ap (λ (x : View V). (hand x).hold) is ∙ o.hold;
+    more_steps = (let a = o.more_steps in omega arith);
     steps = (let a = o.steps in omega arith);
     seen = begins_on o.seen begins;
     sizes = ap (λ (x : View V). x.sizes) is ∙ o.sizes;
     base = ap (λ (x : View V). x.base) is ∙ o.base;
   }
 
-  pub tries_end : (m : Meter V) (w u : View V) (slot : ℕ) → HasTried v w → u ≡ joined (noted w) → SeenList m w.base (noted w) w.seen → (hand v).linked ≡ false → length u.seen ≤ 64 → slot ≡ (hand v).slot → HasSeenOwn u → HasJoined m v u slot
+  pub tries_end : (m : Meter V) (w u : View V) (slot : ℕ) → HasTried v w → u ≡ joined (noted w) → SeenJoin m w.base (noted w) → (hand v).linked ≡ false → length u.seen ≤ slot_count → slot ≡ (hand v).slot → HasSeenOwn u → HasJoined m v u slot
   tries_end m w u slot o is seen spare few at seen_own = let steps : u.list_steps ≡ w.list_steps + 1 + 1 = ap (λ (x : View V). x.list_steps) is in
       let long : length u.seen ≡ length w.seen + 1 = ap (λ (x : View V). length x.seen) is ∙ length-append w.seen (node (hand w).slot (hand w).who ∷ []) in
       -- the list of that moment has no node of the seat's caller, who has a spare
-      let own = (own_hand m w.base seen.state seen.moment.rule seen.id (noted w) seen.moment.stands refl).1 in
+      let own = (own_hand m w.base seen.moment.before seen.moment.rule seen.moment.id (noted w) seen.moment.stands refl).1 in
       let no_node : Lacks w.seen (who v) = (λ k n e c. own.spare (o.linked ∙ spare) k n (ap (λ (l : List Node). get_elem? l k) seen.nodes_are ∙ e) (c ∙ sym o.who_is)) in record {
         was_spare = ap (λ (b : Bool). unless b (hand v).slot) spare ∙ ap Some (sym at);
         mine_is = ap (λ (x : View V). mine x) is ∙ ap Some (o.slot ∙ sym at);
         own = seen_own;
         appended = (w.seen, o.seen, no_node, ap (λ (x : View V). x.seen) is ∙ (λ i. w.seen ++ node ((o.slot ∙ sym at) i) (o.who_is i) ∷ []));
-        looked = (noted w, is, seen);
+        moment = (noted w, is, seen);
         steps = (let a = o.steps in omega arith);
+        some_steps = (let a = o.more_steps in omega arith);
+        few_steps = (let a = o.steps in omega arith);
         few = few;
         earlier = shown_grows v u (subst (λ (l : List Node). Begins v.seen l) (ap (λ (x : View V). x.seen) (sym is)) (begins_on o.seen (begins_more w.seen (own_node w ∷ [])))) (ap (λ (x : View V). x.sizes) is ∙ o.sizes);
         who_is = ap (λ (x : View V). (hand x).who) is ∙ o.who_is;

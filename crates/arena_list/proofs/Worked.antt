@@ -7,25 +7,21 @@ use mathlib.Core.Option.{some, some-ne-none}
 use lib.ListN.{get_elem?}
 use base.Stored.{Coded}
 use Rattle.arena_list.specs.declared.entry.Entry.{Entry}
-use Rattle.arena_list.specs.declared.founding.Founding.{Founding}
 use Rattle.arena_list.specs.declared.list.ListSeat.{ListSeat}
 use Rattle.arena_list.specs.declared.list.ArenaList.{ArenaList}
 use Rattle.arena_list.specs.declared.mark.Mark.{Mark}
 use Rattle.arena_list.specs.declared.view.Hand.{Hand}
+use Rattle.arena_list.specs.Core.{slot_count}
 use Rattle.arena_list.specs.Founded.{Meter, Differ, AreFit, Fits, has, slot, caller}
-use Rattle.arena_list.specs.Made.{IsMadeOf, AreFirst}
-use Rattle.arena_list.specs.Views.{first_hand, who, out, HasSeenOwn}
-use Rattle.arena_list.specs.Marks.{marks, mark, marked_founding}
-use Rattle.arena_list.specs.declared.view.View.{View}
-use Rattle.arena_list.specs.Seats.{view, SameList, IsHome}
+use Rattle.arena_list.specs.Made.{AreFirst}
+use Rattle.arena_list.specs.Views.{first_hand, HasSeenOwn}
+use Rattle.arena_list.specs.Marks.{marks}
+use Rattle.arena_list.specs.Seats.{view, callers_of, SameList, IsHome}
 use Rattle.arena_list.specs.Closed.{AreAll}
 use Rattle.arena_list.proofs.Few.{or_at, at_mapped}
 use Rattle.arena_list.proofs.Lists.{at_below, at_there, at_end, same_elements, all_kept}
 use Rattle.arena_list.proofs.Seats.{at_append}
-use Rattle.arena_list.proofs.Opening.{has_at, entry_at}
-use Rattle.arena_list.proofs.Dealing.{hand_who}
-use Rattle.arena_list.proofs.Marked.{fits_marked, fit_marked}
-use Rattle.arena_list.proofs.Making.{fit_as}
+use Rattle.arena_list.proofs.Opening.{has_at}
 use Rattle.arena_list.proofs.SeatFacts.{seen_own}
 
 -- spare entries for callers 4, 7, 10 and on, in slots 0, 1, 2 and on
@@ -55,19 +51,19 @@ module _ {V : Type 0} (m : Meter V) where
 -- beside them at most one linked entry, whose caller is 99 and has no seat
 pub record IsBeside {V : Type 0} (m : Meter V) (linked : List (Entry V)) (n : ℕ) : Type 0 where
   pub one : length linked ≤ 1
-  pub entry : (k : ℕ) (e : Entry V) → get_elem? linked k ≡ some e → (n ≤ e.slot) × (e.slot < 64) × (e.caller ≡ 99) × Fits m 5 e.caller e.part
+  pub entry : (k : ℕ) (e : Entry V) → get_elem? linked k ≡ some e → (n ≤ e.slot) × (e.slot < slot_count) × (e.caller ≡ 99) × Fits m 5 e.caller e.part
 
 module _ {V : Type 0} (m : Meter V) (n : ℕ) where
   pub none_beside : (linked : List (Entry V)) → linked ≡ [] → IsBeside m linked n
   none_beside linked is = subst (λ (l : List (Entry V)). IsBeside m l n) (sym is) (record { one = omega arith; entry = λ k e at. absurd (some-ne-none e (sym at)) })
 
-  pub one_beside : (linked : List (Entry V)) (e : Entry V) → linked ≡ e ∷ [] → n ≤ e.slot → e.slot < 64 → e.caller ≡ 99 → Fits m 5 e.caller e.part → IsBeside m linked n
+  pub one_beside : (linked : List (Entry V)) (e : Entry V) → linked ≡ e ∷ [] → n ≤ e.slot → e.slot < slot_count → e.caller ≡ 99 → Fits m 5 e.caller e.part → IsBeside m linked n
   one_beside linked e is low small whose fits = subst (λ (l : List (Entry V)). IsBeside m l n) (sym is) (record {
     one = omega arith;
-    entry = λ k x at. ⊎_elim (λ t. absurd (some-ne-none x (sym t))) (λ t. subst (λ (y : Entry V). (n ≤ y.slot) × (y.slot < 64) × (y.caller ≡ 99) × Fits m 5 y.caller y.part) t.1 (low, small, whose, fits)) (at_end [] e x k at);
+    entry = λ k x at. ⊎_elim (λ t. absurd (some-ne-none x (sym t))) (λ t. subst (λ (y : Entry V). (n ≤ y.slot) × (y.slot < slot_count) × (y.caller ≡ 99) × Fits m 5 y.caller y.part) t.1 (low, small, whose, fits)) (at_end [] e x k at);
   })
 
-module _ {V : Type 0} (m : Meter V) (linked spare : List (Entry V)) (callers : List ℕ) (n : ℕ) (o : AreSpares m spare callers n) (b : IsBeside m linked n) (some_one : 0 < n) (few : n ≤ 64) where
+module _ {V : Type 0} (m : Meter V) (linked spare : List (Entry V)) (callers : List ℕ) (n : ℕ) (o : AreSpares m spare callers n) (b : IsBeside m linked n) (some_one : 0 < n) (few : n ≤ slot_count) where
   same_linked : (i j : ℕ) (x y : Entry V) → get_elem? linked i ≡ some x → get_elem? linked j ≡ some y → i ≡ j
   same_linked i j x y p q = let one = b.one in let k = at_below linked i x p in let l = at_below linked j y q in omega arith
 
@@ -103,18 +99,9 @@ module _ {V : Type 0} (m : Meter V) (linked spare : List (Entry V)) (callers : L
 own_of : (s : ListSeat) → HasSeenOwn (view s)
 own_of s = seen_own marks s.seated
 
-module _ {V : Type 0} (cd : Coded V) (m : Meter V) (life : ℕ) (linked spare : List (Entry V)) (callers : List ℕ) (list : ArenaList V) (seats : List ListSeat) (fit : AreFit m life linked spare callers) (made : IsMadeOf life linked spare callers list) (first : AreFirst cd m list callers seats) where
-  abbrev key : Founding V
-  key = list.table.shared.key
-
-  key_fit : AreFit m key.life key.linked.items key.spare.items key.callers.items
-  key_fit = fit_as m key.life linked key.linked.items spare key.spare.items callers key.callers.items made.linked_are made.spare_are made.callers_are
-      (subst (λ (l : ℕ). AreFit m l linked spare callers) (sym made.life_is) fit)
-
+module _ {V : Type 0} (cd : Coded V) (m : Meter V) (linked spare : List (Entry V)) (callers : List ℕ) (list : ArenaList V) (seats : List ListSeat) (first : AreFirst cd m list linked spare callers seats) where
   is_home : (i c : ℕ) (s : ListSeat) → get_elem? callers i ≡ some c → get_elem? seats i ≡ some s → IsHome cd m list s
-  is_home i c s a b = let r = first.each i c s a b in let e = r.1.0 in let p = entry_at (key.linked.items ++ key.spare.items) c e r.1.1 in
-      let whose : who (view s) ≡ c = ap who r.1.2 ∙ hand_who marks (marked_founding cd m key) (fit_marked cd m key.life key.linked.items key.spare.items key.callers.items key_fit) i c (ap (λ (l : List ℕ). get_elem? l i) made.callers_are ∙ a) in
-      (r.0, (mark cd m e.part, ap out r.1.2, subst (λ (w : ℕ). Fits marks key.life w (mark cd m e.part)) (p.2 ∙ sym whose) (fits_marked cd m key.life e.caller e.part (key_fit.parts p.0 e p.1))), ap (λ (v : View Mark). v.base) r.1.2, own_of s)
+  is_home i c s a b = let r = first.each i c s a b in (r.of_list, r.rests, r.base_is, r.seen_own)
 
   -- each seat that `make` gives has its value at home
   pub all_home : All (IsHome cd m list) seats
@@ -128,9 +115,9 @@ module _ {V : Type 0} (cd : Coded V) (m : Meter V) (list : ArenaList V) (s t : L
 
 module _ {V : Type 0} (cd : Coded V) (m : Meter V) where
   -- what `close` asks
-  pub all_back : (list : ArenaList V) (seats : List ListSeat) → length seats ≡ length list.table.shared.key.callers.items → All (IsHome cd m list) seats → AreAll list seats
-  all_back list seats count home = record {
-    count = count;
+  pub all_back : (list : ArenaList V) (seats : List ListSeat) → length (callers_of list) ≤ length seats → All (IsHome cd m list) seats → AreAll list seats
+  all_back list seats enough home = record {
+    enough = enough;
     each = λ k s at. let h : IsHome cd m list s = subst (IsHome cd m list) (or_at seats k s s at) (home k s (at_below seats k s at)) in (h.0, (h.1.0, h.1.1));
   }
 

@@ -4,32 +4,44 @@ use mathlib.Core.Option.{some}
 use lib.ListN.{get_elem?}
 use Rattle.arena_list.specs.declared.view.Node.{Node}
 use Rattle.arena_list.specs.declared.view.View.{View}
-use Rattle.arena_list.specs.Nodes.{node, before, Begins, HasNode}
+use Rattle.arena_list.specs.Core.{slot_count}
+use Rattle.arena_list.specs.Nodes.{node, before, Begins}
 use Rattle.arena_list.specs.Views.{hand, who, mine, spare, out, shown, sum_seen, HasSeenOwn}
 use Rattle.arena_list.specs.Founded.{Meter}
-use Rattle.arena_list.specs.Moments.{SeenList, SeenSize}
-use Rattle.arena_list.specs.Steps.{joined, used_now}
+use Rattle.arena_list.specs.Moments.{SeenList, SeenJoin, SeenSize}
+use Rattle.arena_list.specs.After.{joined, used_now}
 
 -- no node of the caller stands in the list
 abbrev pub Lacks : List Node → ℕ → Type 0
 Lacks nodes who = (k : ℕ) (n : Node) → get_elem? nodes k ≡ some n → n.caller ≢ who
 
 module _ {V : Type 0} where
+  -- a look, and then the nodes from the newest to the caller's own, which is this slot's
+  pub record HasWalkedTo (v w : View V) (slot : ℕ) : Type 0 where
+    pub place : ℕ
+    pub node_is : get_elem? w.seen place ≡ some (node slot (who w))
+    pub steps : w.list_steps + place ≡ v.list_steps + 1 + length w.seen
+
+  -- a look, and then all nodes, of which none is the caller's
+  pub record HasWalkedAll (v w : View V) : Type 0 where
+    pub lacks : Lacks w.seen (who w)
+    pub steps : w.list_steps ≡ v.list_steps + 1 + length w.seen
+
   -- `find` looked once at the list, which is what the seat has seen of it from then on, and walked it
   pub record HasFound (m : Meter V) (v w : View V) (answer : Option ℕ) : Type 0 where
     -- the list had these nodes at the look, when the seat's view was still the one before
     pub looked : SeenList m v.base v w.seen
     -- None exactly where no node of the caller stood in the list
-    pub found : IfSome answer (λ slot. HasNode w.seen slot (who w))
-    pub none : IfNone answer (Lacks w.seen (who w))
+    pub found : IfSome answer (λ slot. HasWalkedTo v w slot)
+    pub none : IfNone answer (HasWalkedAll v w)
     -- what a seat was shown never falls
     pub earlier : shown v ≤ shown w
     pub mine_is : answer ≡ mine w
     pub own : HasSeenOwn w
     -- one step for the look, and at most one for each node
     pub some_step : v.list_steps + 1 ≤ w.list_steps
-    pub steps : w.list_steps ≤ v.list_steps + 1 + length w.seen
-    pub few : length w.seen ≤ 64
+    pub few_steps : w.list_steps ≤ v.list_steps + (slot_count + 1)
+    pub few : length w.seen ≤ slot_count
     pub seen : Begins v.seen w.seen
     pub hands : w.hands ≡ v.hands
     pub sizes : w.sizes ≡ v.sizes
@@ -41,6 +53,7 @@ module _ {V : Type 0} where
     pub slot : (hand w).slot ≡ (hand v).slot
     pub linked : (hand w).linked ≡ (hand v).linked
     pub hold : out w ≡ out v
+    pub more_steps : v.list_steps ≤ w.list_steps
     pub steps : w.list_steps + 2 * length v.seen ≤ v.list_steps + 2 * length w.seen
     pub seen : Begins v.seen w.seen
     pub sizes : w.sizes ≡ v.sizes
@@ -53,10 +66,12 @@ module _ {V : Type 0} where
     pub own : HasSeenOwn w
     pub appended : (nodes : List Node) × Begins v.seen nodes × Lacks nodes (who v) × (w.seen ≡ nodes ++ node slot (who v) ∷ [])
     -- the list had the nodes before it when the exchange appended it
-    pub looked : (u : View V) × (w ≡ joined u) × SeenList m u.base u u.seen
+    pub moment : (u : View V) × (w ≡ joined u) × SeenJoin m u.base u
     -- two steps for each exchange, of which each that failed showed a longer list
     pub steps : w.list_steps + 2 * length v.seen ≤ v.list_steps + 2 * length w.seen
-    pub few : length w.seen ≤ 64
+    pub some_steps : v.list_steps + 2 ≤ w.list_steps
+    pub few_steps : w.list_steps ≤ v.list_steps + 2 * slot_count
+    pub few : length w.seen ≤ slot_count
     pub earlier : shown v ≤ shown w
     pub who_is : who w ≡ who v
     pub hold : out w ≡ out v
@@ -106,7 +121,8 @@ module _ {V : Type 0} where
     pub earlier : shown v ≤ answer
     pub grown : (slot : ℕ) → slice_index v.sizes slot ≤ slice_index w.sizes slot
     pub steps : w.list_steps ≡ v.list_steps + 1 + length w.seen
-    pub few : length w.seen ≤ 64
+    pub few_steps : w.list_steps ≤ v.list_steps + (slot_count + 1)
+    pub few : length w.seen ≤ slot_count
     pub seen : Begins v.seen w.seen
     pub hands : w.hands ≡ v.hands
     pub base : w.base ≡ v.base

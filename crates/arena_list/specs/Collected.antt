@@ -3,6 +3,7 @@ use Rattle.std.specs.Prelude.{◌≡◌, ◌≢◌, ◌⊎◌, ℕ, ◌≤◌, �
 use mathlib.Core.Option.{some}
 use lib.ListN.{get_elem?}
 use Rattle.arena_list.specs.declared.entry.Entry.{Entry}
+use Rattle.arena_list.specs.Core.{slot_count}
 use Rattle.arena_list.specs.Nodes.{before, head_of, node_word}
 use Rattle.arena_list.specs.Words.{node_at}
 use Rattle.arena_list.specs.Founded.{Differ, slot, node_of}
@@ -17,8 +18,8 @@ module _ {V : Type 0} where
   pub record AreStored (words : List ℕ) (parts : List (Option V)) (es : List (Entry V)) : Type 0 where
     pub head : slice_index words 0 ≡ head_of (map node_of es)
     pub nodes : (k : ℕ) (e : Entry V) → get_elem? es k ≡ some e → slice_index words (node_at e.slot) ≡ node_word e.caller (before (map node_of es) k)
-    pub small : (k : ℕ) (e : Entry V) → get_elem? es k ≡ some e → e.slot < 64
-    pub few : length es ≤ 64
+    pub small : (k : ℕ) (e : Entry V) → get_elem? es k ≡ some e → e.slot < slot_count
+    pub few : length es ≤ slot_count
     pub values : AreIn parts es
 
   -- these entries' values were put into their slots

@@ -4,6 +4,10 @@ use mathlib.Core.Option.{Option, some}
 use lib.ListN.{get_elem?}
 use Rattle.arena_list.specs.declared.view.Node.{Node}
 
+-- how many slots a list has, and so how many callers stand in it at most
+abbrev pub slot_count : ℕ
+slot_count = 64
+
 -- how a slot stands: the used sum that it shows, and whether its value is home
 pub record Standing : Type 0 where
   pub used : ℕ
@@ -25,7 +29,7 @@ core joined standing = record { joined = joined; standing = standing }
 
 -- `holder` says whose a slot is
 pub record IsListed (holder : ℕ → Option ℕ) (n : Node) : Type 0 where
-  pub slot : n.slot < 64
+  pub slot : n.slot < slot_count
   pub held : holder n.slot ≡ some n.caller
 
 -- no two nodes have one caller. As each slot is one caller's, no two have one slot

@@ -10,8 +10,9 @@ use Rattle.arena_list.specs.declared.view.Node.{Node}
 use Rattle.arena_list.specs.declared.view.Hold.TheVariants.{Vacant}
 use Rattle.arena_list.specs.declared.view.Hand.{Hand}
 use Rattle.arena_list.specs.declared.view.View.{View}
+use Rattle.arena_list.specs.Core.{slot_count}
 use Rattle.arena_list.specs.Nodes.{node, before, head_of, node_word}
-use Rattle.arena_list.specs.Words.{node_at, state_at}
+use Rattle.arena_list.specs.Words.{node_at, state_at, word_count}
 use Rattle.arena_list.specs.Views.{first_hand}
 
 -- a part's owner, life and used sum
@@ -74,7 +75,7 @@ module _ {V : Type 0} where
   hand_for k who = hand_from k.linked.items k.spare.items who
 
   abbrev pub first_view : Founding V → View V
-  first_view k = record { hands = map (hand_for k) k.callers.items; seen = map node_of k.linked.items; list_steps = 0; sizes = replicate 64 0; base = k; pasts = [] }
+  first_view k = record { hands = map (hand_for k) k.callers.items; seen = map node_of k.linked.items; list_steps = 0; sizes = replicate slot_count 0; base = k; pasts = [] }
 
   -- a part fits its slot: it has the caller as its owner, this life, and a used sum that a word can show
   pub record Fits (m : Meter V) (life who : ℕ) (part : V) : Type 0 where
@@ -86,7 +87,7 @@ module _ {V : Type 0} where
   pub record AreFit (m : Meter V) (life : ℕ) (linked spare : List (Entry V)) (callers : List ℕ) : Type 0 where
     -- all slots differ, and are below 64
     pub slots : Differ (map slot (linked ++ spare))
-    pub small : (i : ℕ) (e : Entry V) → get_elem? (linked ++ spare) i ≡ some e → e.slot < 64
+    pub small : (i : ℕ) (e : Entry V) → get_elem? (linked ++ spare) i ≡ some e → e.slot < slot_count
     -- the linked callers differ, and the callers, of which there is one at least
     pub linked_once : Differ (map caller linked)
     pub callers_once : Differ callers
@@ -97,11 +98,11 @@ module _ {V : Type 0} where
 
   -- the words of a list with these linked entries and callers: its nodes, and the states of the entries whose callers have no seat
   pub record IsLaid (m : Meter V) (linked : List (Entry V)) (callers words : List ℕ) : Type 0 where
-    pub wide : length words ≡ 592
+    pub wide : length words ≡ word_count
     pub head : slice_index words 0 ≡ head_of (map node_of linked)
     pub nodes : (i : ℕ) (e : Entry V) → get_elem? linked i ≡ some e → slice_index words (node_at e.slot) ≡ node_word e.caller (before (map node_of linked) i)
     pub home : (i : ℕ) (e : Entry V) → get_elem? (others_of linked callers) i ≡ some e → slice_index words (state_at e.slot) ≡ 2 * m.used e.part + 1
-    pub away : (slot : ℕ) → slot < 64 → ((i : ℕ) (e : Entry V) → get_elem? (others_of linked callers) i ≡ some e → e.slot ≢ slot) → slice_index words (state_at slot) ≡ 0
+    pub away : (slot : ℕ) → slot < slot_count → ((i : ℕ) (e : Entry V) → get_elem? (others_of linked callers) i ≡ some e → e.slot ≢ slot) → slice_index words (state_at slot) ≡ 0
 
   -- the words with one more entry: its node, and its state where its caller has no seat
   abbrev pub with_entry : Meter V → List ℕ → Entry V → Bool → ℕ → List ℕ
@@ -109,7 +110,7 @@ module _ {V : Type 0} where
 
   -- the same of the first n linked entries, while the words are written
   pub record IsLaidTo (m : Meter V) (linked : List (Entry V)) (callers words : List ℕ) (n : ℕ) : Type 0 where
-    pub wide : length words ≡ 592
+    pub wide : length words ≡ word_count
     pub nodes : (i : ℕ) (e : Entry V) → i < n → get_elem? linked i ≡ some e → slice_index words (node_at e.slot) ≡ node_word e.caller (before (map node_of linked) i)
     pub home : (i : ℕ) (e : Entry V) → i < n → get_elem? linked i ≡ some e → has callers e.caller ≡ false → slice_index words (state_at e.slot) ≡ 2 * m.used e.part + 1
-    pub away : (slot : ℕ) → slot < 64 → ((i : ℕ) (e : Entry V) → i < n → get_elem? linked i ≡ some e → has callers e.caller ≡ false → e.slot ≢ slot) → slice_index words (state_at slot) ≡ 0
+    pub away : (slot : ℕ) → slot < slot_count → ((i : ℕ) (e : Entry V) → i < n → get_elem? linked i ≡ some e → has callers e.caller ≡ false → e.slot ≢ slot) → slice_index words (state_at slot) ≡ 0

@@ -6,6 +6,8 @@ pub mod Core
 pub mod Rule
 pub mod Image
 pub mod Marks
+pub mod After
+pub mod Events
 pub mod Moments
 pub mod Steps
 pub mod Calls

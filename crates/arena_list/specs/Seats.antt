@@ -1,13 +1,16 @@
 -- A list and a seat, as their callers see them.
 use Rattle.std.specs.Prelude.{◌≡◌, ℕ, List, All, length}
+use mathlib.Core.Option.{some}
+use lib.ListN.{get_elem?}
 use base.Stored.{Coded}
+use Rattle.arena_list.specs.declared.entry.Entry.{Entry}
 use Rattle.arena_list.specs.declared.founding.Founding.{Founding}
 use Rattle.arena_list.specs.declared.list.ListSeat.{ListSeat}
 use Rattle.arena_list.specs.declared.list.ArenaList.{ArenaList}
 use Rattle.arena_list.specs.declared.mark.Mark.{Mark}
 use Rattle.arena_list.specs.declared.view.View.{View}
 use Rattle.arena_list.specs.declared.view.Hold.TheVariants.{Rests}
-use Rattle.arena_list.specs.Founded.{Meter, Fits}
+use Rattle.arena_list.specs.Founded.{Meter, Fits, others_of}
 use Rattle.arena_list.specs.Marks.{marks, mark, marked_founding}
 use Rattle.arena_list.specs.Steps.{sole}
 use Rattle.arena_list.specs.Views.{who, out, HasSeenOwn}
@@ -21,6 +24,10 @@ abbrev pub SameList : ListSeat → ListSeat → Type 0
 SameList old new = new.badge.table_id ≡ old.badge.table_id
 
 module _ {V : Type 0} where
+  -- the entry stands in the list of entries
+  abbrev pub IsAmong : List (Entry V) → Entry V → Type 0
+  IsAmong es e = (i : ℕ) × (get_elem? es i ≡ some e)
+
   -- the life of a list
   abbrev pub life_of : ArenaList V → ℕ
   life_of list = list.table.shared.key.life
@@ -28,6 +35,14 @@ module _ {V : Type 0} where
   -- what a list was made with
   abbrev pub founding_of : ArenaList V → Founding V
   founding_of list = list.table.shared.key
+
+  -- the callers that have a seat
+  abbrev pub callers_of : ArenaList V → List ℕ
+  callers_of list = (founding_of list).callers.items
+
+  -- the wards of a list: the linked entries that it was made with whose callers have no seat, oldest first
+  abbrev pub wards_of : ArenaList V → List (Entry V)
+  wards_of list = others_of (founding_of list).linked.items (callers_of list)
 
   -- the seat is of this list
   abbrev pub IsSeatOf : ArenaList V → ListSeat → Type 0

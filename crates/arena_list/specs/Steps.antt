@@ -5,16 +5,16 @@ use lib.ListN.{get_elem?}
 use Rattle.atomic_table.specs.Table.{Me, Step}
 use Rattle.arena_list.specs.declared.told.Told.{Told}
 use Rattle.arena_list.specs.declared.view.Node.{Node}
-use Rattle.arena_list.specs.declared.view.Hold.{Hold}
-use Rattle.arena_list.specs.declared.view.Hold.TheVariants.{Vacant, Filling, Away, Rests}
+use Rattle.arena_list.specs.declared.view.Hold.TheVariants.{Moving, Away, Rests}
 use Rattle.arena_list.specs.declared.view.Hand.{Hand}
 use Rattle.arena_list.specs.declared.view.View.{View}
-use Rattle.arena_list.specs.Nodes.{node, before, head_of, node_word, Begins, HasNode, LacksNode}
-use Rattle.arena_list.specs.Core.{CallersDiffer}
+use Rattle.arena_list.specs.Nodes.{before, head_of, node_word, Begins, HasNode, LacksNode}
+use Rattle.arena_list.specs.Core.{CallersDiffer, slot_count}
 use Rattle.arena_list.specs.Words.{node_at, state_at}
 use Rattle.arena_list.specs.Views.{hand}
 use Rattle.arena_list.specs.Founded.{Meter}
-use Rattle.arena_list.specs.Moments.{SeenList, SeenSize}
+use Rattle.arena_list.specs.Moments.{SeenList, SeenJoin, SeenTake, SeenGive, SeenSize}
+use Rattle.arena_list.specs.After.{counted, looked, next_link, noted, joined, held, settled, sized, used_now, with_seat}
 
 -- the list as it stood at a look, beside the hand that looked: the caller's slot is in it exactly where it is linked
 pub record Sees {V : Type 0} (h : Hand V) (nodes : List Node) : Type 0 where
@@ -22,9 +22,9 @@ pub record Sees {V : Type 0} (h : Hand V) (nodes : List Node) : Type 0 where
   pub spare : h.linked ≡ false → (k : ℕ) (n : Node) → get_elem? nodes k ≡ some n → n.caller ≢ h.who
   pub callers : CallersDiffer nodes
   pub slots : (i j : ℕ) (n o : Node) → get_elem? nodes i ≡ some n → get_elem? nodes j ≡ some o → n.slot ≡ o.slot → i ≡ j
-  pub small : (k : ℕ) (n : Node) → get_elem? nodes k ≡ some n → n.slot < 64
-  pub few : length nodes ≤ 64
-  pub fewer : h.linked ≡ false → length nodes < 64
+  pub small : (k : ℕ) (n : Node) → get_elem? nodes k ≡ some n → n.slot < slot_count
+  pub few : length nodes ≤ slot_count
+  pub fewer : h.linked ≡ false → length nodes < slot_count
 
 -- a seat: its view, and the slots that it holds
 abbrev pub Sat : Type 0 → Type 0
@@ -43,55 +43,8 @@ longer xs ys = if nat_lt (length xs) (length ys) then ys else xs
 abbrev pub untold : {A : Type 0} → Told A
 untold = record { marker = record {}; items = [] }
 
--- ---- the view after a step
+-- ---- what a step tells
 module _ {V : Type 0} where
-  abbrev pub counted : View V → View V
-  counted v = record v { list_steps = v.list_steps + 1 }
-
-  abbrev pub looked : View V → List Node → View V
-  looked v nodes = record v { seen = nodes; list_steps = v.list_steps + 1 }
-
-  abbrev pub with_hand : View V → Hand V → View V
-  with_hand v h = record v { hands = h ∷ [] }
-
-  abbrev pub own_node : View V → Node
-  own_node v = node (hand v).slot (hand v).who
-
-  -- the previous part that the next node gets
-  abbrev pub next_link : View V → ℕ
-  next_link v = before v.seen (length v.seen)
-
-  abbrev pub noted : View V → View V
-  noted v = record v { hands = record (hand v) { noted = Some (next_link v) } ∷ []; list_steps = v.list_steps + 1 }
-
-  abbrev pub joined : View V → View V
-  joined v = record v { hands = record (hand v) { linked = true; noted = None } ∷ []; seen = v.seen ++ own_node v ∷ []; list_steps = v.list_steps + 1 }
-
-  abbrev pub held : View V → Hold V → View V
-  held v x = with_hand v (record (hand v) { hold = x })
-
-  -- the value given, and its used sum among those seen
-  abbrev pub settled : Meter V → View V → V → View V
-  settled m v part = record v { hands = record (hand v) { hold = Rests part } ∷ []; sizes = set v.sizes (hand v).slot (m.used part) }
-
-  abbrev pub sized : View V → ℕ → ℕ → View V
-  sized v slot used = record v { sizes = set v.sizes slot used }
-
-  -- the used sum that the caller's own slot shows
-  abbrev pub used_now : Meter V → Hold V → ℕ
-  used_now m Vacant = 0
-  used_now m (Filling used) = used
-  used_now m (Away used) = used
-  used_now m (Rests part) = m.used part
-
-  -- the value is out, and its slot is empty and at home
-  abbrev pub IsOut : Hold V → Type 0
-  IsOut Vacant = Unit {0}
-  IsOut (Filling used) = ⊥
-  IsOut (Away used) = Unit {0}
-  IsOut (Rests part) = ⊥
-
-  -- ---- what a step tells
   abbrev pub saw_head : Meter V → Step (Option V) → Sat V → ℕ → Sat V → Type 0
   saw_head m st me r me' = (me' ≡ (looked me.0 me'.0.seen, me.1)) × (r ≡ head_of me'.0.seen) × Begins me.0.seen me'.0.seen × Sees (hand me.0) me'.0.seen × SeenList m me.0.base me.0 me'.0.seen
 
@@ -103,21 +56,21 @@ module _ {V : Type 0} where
 
   -- the exchange appended the caller's node, or else showed a longer list
   abbrev pub tried_link : Meter V → Step (Option V) → Sat V → ℕ → Sat V → Type 0
-  tried_link m st me r me' = (r ≡ st.first → (me' ≡ (joined me.0, me.1)) × Sees (hand me'.0) me'.0.seen × SeenList m me.0.base me.0 me.0.seen)
+  tried_link m st me r me' = (r ≡ st.first → (me' ≡ (joined me.0, me.1)) × Sees (hand me'.0) me'.0.seen × SeenJoin m me.0.base me.0)
       × (r ≢ st.first → saw_head m st me r me' × (length me.0.seen < length me'.0.seen))
 
   abbrev pub took : Meter V → Step (Option V) → Sat V → ℕ → Sat V → Type 0
-  took m st me r me' = (part : V) → (hand me.0).hold ≡ Rests part → me' ≡ (held me.0 (Filling (m.used part)), ((hand me.0).slot, Some part) ∷ me.1)
+  took m st me r me' = (part : V) → (hand me.0).hold ≡ Rests part → (me' ≡ (held me.0 (Moving (m.used part)), ((hand me.0).slot, Some part) ∷ me.1)) × SeenTake m me.0.base me.0 (m.used part)
 
   -- the emptied slot went home
   abbrev pub emptied : Step (Option V) → Sat V → ℕ → Sat V → Type 0
-  emptied st me r me' = (used : ℕ) (out : List (ℕ × Option V)) → (hand me.0).hold ≡ Filling used → me.1 ≡ ((hand me.0).slot, None) ∷ out → me' ≡ (held me.0 (Away used), out)
+  emptied st me r me' = (used : ℕ) (out : List (ℕ × Option V)) → (hand me.0).hold ≡ Moving used → me.1 ≡ ((hand me.0).slot, None) ∷ out → me' ≡ (held me.0 (Away used), out)
 
   abbrev pub claimed : Meter V → Step (Option V) → Sat V → ℕ → Sat V → Type 0
-  claimed m st me r me' = me' ≡ (held me.0 (Filling (used_now m (hand me.0).hold)), ((hand me.0).slot, None) ∷ me.1)
+  claimed m st me r me' = me' ≡ (held me.0 (with_seat (hand me.0).hold), ((hand me.0).slot, None) ∷ me.1)
 
   abbrev pub gave : Meter V → Step (Option V) → Sat V → ℕ → Sat V → Type 0
-  gave m st me r me' = (part : V) (out : List (ℕ × Option V)) → me.1 ≡ ((hand me.0).slot, Some part) ∷ out → (me' ≡ (settled m me.0 part, out)) × (slice_index me.0.sizes (hand me.0).slot ≤ m.used part)
+  gave m st me r me' = (part : V) (out : List (ℕ × Option V)) → me.1 ≡ ((hand me.0).slot, Some part) ∷ out → (me' ≡ (settled m me.0 part, out)) × (slice_index me.0.sizes (hand me.0).slot ≤ m.used part) × SeenGive m me.0.base me.0 part
 
   abbrev pub saw_size : Meter V → Step (Option V) → Sat V → ℕ → Sat V → Type 0
   saw_size m st me r me' = (slot : ℕ) → st.word ≡ state_at slot → (me' ≡ (sized me.0 slot (r / 2), me.1)) × (slice_index me.0.sizes slot ≤ r / 2) × (slice_index (set me.0.sizes slot (r / 2)) slot ≡ r / 2) × (slot ≡ (hand me.0).slot → r / 2 ≡ used_now m (hand me.0).hold) × SeenSize m me.0.base me.0 slot (r / 2)
@@ -137,7 +90,7 @@ module _ {V : Type 0} where
   both v w = record { hands = v.hands ++ w.hands; seen = longer v.seen w.seen; list_steps = v.list_steps + w.list_steps; sizes = greater v.sizes w.sizes; base = v.base; pasts = v.seen ∷ w.seen ∷ (v.pasts ++ w.pasts) }
 
   abbrev pub spent : View V
-  spent = record { hands = []; seen = []; list_steps = 0; sizes = replicate 64 0; base = record { life = 0; linked = untold; spare = untold; callers = untold }; pasts = [] }
+  spent = record { hands = []; seen = []; list_steps = 0; sizes = replicate slot_count 0; base = record { life = 0; linked = untold; spare = untold; callers = untold }; pasts = [] }
 
   -- the view of a seat that has one
   abbrev pub sole : List (View V) → View V
@@ -152,12 +105,12 @@ pub record IsSeated {V : Type 0} (m : Meter V) (caller slot : ℕ) (linked : Boo
   pub linked_is : linked ≡ (hand me.0).linked
   pub used_is : used ≡ used_now m (hand me.0).hold
   pub head_is : head ≡ head_of me.0.seen
-  pub slot_small : slot < 64
+  pub slot_small : slot < slot_count
   pub used_small : used < 2 ^ 63
-  pub link_small : next_link me.0 ≤ 64
+  pub link_small : next_link me.0 ≤ slot_count
   -- a seat whose slot is in the list has seen its own node
   pub own : linked ≡ true → ¬ LacksNode me.0.seen slot caller
-  pub few : length me.0.seen ≤ 64
-  pub fewer : linked ≡ false → length me.0.seen < 64
+  pub few : length me.0.seen ≤ slot_count
+  pub fewer : linked ≡ false → length me.0.seen < slot_count
   -- between two calls it holds no slot
   pub free : me.1 ≡ []

@@ -3,22 +3,21 @@ ghost use Rattle.std.specs.Prelude.{◌≡◌, ℕ, ◌+◌, ◌<◌, ◌≤◌,
 ghost use Rattle.std.specs.Slots.{slots_items, slots_filled, slots_len, IsFull};
 ghost use mathlib.Core.Option.{some};
 ghost use lib.ListN.{get_elem?};
+ghost use Rattle.arena_list.specs.Words.{word_count};
+ghost use Rattle.arena_list.specs.Core.{slot_count};
 ghost use Rattle.arena_list.specs.Founded.{meter};
-ghost use Rattle.arena_list.specs.Marks.{mark, marked_entry};
 ghost use Rattle.arena_list.specs.Views.{shown};
-ghost use Rattle.arena_list.specs.Seats.{view, life_of, founding_of};
-ghost use Rattle.arena_list.specs.Closed.{HasTold, AreAll, AreApart, AreAtMost, AreLinked, used_sum, hand_of, slots_of, spares_of};
+ghost use Rattle.arena_list.specs.Seats.{view, life_of, founding_of, callers_of, wards_of};
+ghost use Rattle.arena_list.specs.Closed.{HasTold, AreAll, AreApart, AreAtMost, AreLinked, AreSpares, used_sum, hand_of, slots_of};
 
 use crate::collect::{place_others, pull_linked, pull_spares};
 use crate::entry::Entry;
 use crate::list::{ArenaList, ListSeat, OwnSeat, Words};
 use crate::plays::Gather;
+use crate::steps::SLOTS;
 use arena_mem::{NoMemory, Part};
 use atomic_table::Closed;
 use std::alloc::Global;
-
-/// How many slots a list has.
-const SLOTS: usize = 64;
 
 /// What closing a list needs room for.
 struct Rooms<V: Part> {
@@ -31,7 +30,7 @@ struct Rooms<V: Part> {
 
 fn make_rooms<V: Part>(alloc: Global, seats: usize) -> Result<Rooms<V>, NoMemory>
     ensures empty { IfOk result (λ r. (r.linked.items ≡ []) × (r.spare.items ≡ []) × (r.spare_slots.items ≡ []) × (r.parts.items ≡ [])) }
-    ensures room { IfOk result (λ r. (64 ≤ vec_capacity r.linked) × (seats ≤ vec_capacity r.spare) × (seats ≤ vec_capacity r.spare_slots) × (64 ≤ vec_capacity r.parts)) }
+    ensures room { IfOk result (λ r. (slot_count ≤ vec_capacity r.linked) × (seats ≤ vec_capacity r.spare) × (seats ≤ vec_capacity r.spare_slots) × (slot_count ≤ vec_capacity r.parts)) }
 {
     let spare_slots = Vec::with_capacity(alloc, seats)?;
     let linked = Vec::with_capacity(alloc, SLOTS)?;
@@ -71,7 +70,7 @@ fn gather<V: Part>(
     mut seats: Vec<ListSeat>,
     spare_slots: &mut Vec<(u32, u32)>,
 ) -> OwnSeat<V>
-    requires words { words.now.table_id.words ≡ 592 }
+    requires words { words.now.table_id.words ≡ word_count }
     requires some { 0 < length seats.items }
     requires list { (k : ℕ) (s : _) → get_elem? seats.items k ≡ some s → s.badge.table_id ≡ words.now.table_id }
     requires room { (spare_slots.old.items ≡ []) × (length seats.items ≤ vec_capacity spare_slots.old) }
@@ -97,10 +96,10 @@ fn gather<V: Part>(
 
 /// Takes the values out of all slots of a closed table, in order.
 fn empty<V: Part>(closed: &mut Closed<Option<V>, Global>, parts: &mut Vec<Option<V>>)
-    requires full { IsFull closed.old.slots × (slots_len closed.old.slots ≡ 64) }
-    requires room { (parts.old.items ≡ []) × (64 ≤ vec_capacity parts.old) }
+    requires full { IsFull closed.old.slots × (slots_len closed.old.slots ≡ slot_count) }
+    requires room { (parts.old.items ≡ []) × (slot_count ≤ vec_capacity parts.old) }
     ensures parts { (k : ℕ) (x : _) → get_elem? parts.new.items k ≡ some x → get_elem? (slots_items closed.old.slots) k ≡ some x }
-    ensures count { length parts.new.items ≡ 64 }
+    ensures count { length parts.new.items ≡ slot_count }
     ensures free { (k : ℕ) → k < slots_len closed.new.slots → slice_index_or (slots_filled closed.new.slots) k false ≡ false }
     ensures words { closed.new.words ≡ closed.old.words }
 {
@@ -125,15 +124,17 @@ impl<V: Part> ArenaList<V> {
     /// The linked entries, oldest first, and the spare ones, in the order of the seats, each with its value. Want of
     /// memory hands everything back.
     ///
-    /// All seats that `make` gave come back, in any order, and none has its slot out.
+    /// All seats that `make` gave come back, in any order, and none has its slot out. There are no more than those, so it
+    /// is enough to know that there are as many at least.
     pub fn close(
         self,
         alloc: Global,
         seats: Vec<ListSeat>,
     ) -> Result<(Vec<Entry<V>>, Vec<Entry<V>>), (NoMemory, ArenaList<V>, Vec<ListSeat>)>
         requires all { AreAll self seats.items }
-        ensures linked { IfOk result (λ r. AreLinked (mark V.row.coded (meter V.owner_of V.life_of V.used_of)) self.others.items (founding_of self).linked.items seats.items r.0.items) }
-        ensures spares { IfOk result (λ r. map (marked_entry V.row.coded (meter V.owner_of V.life_of V.used_of)) r.1.items ≡ spares_of (map hand_of seats.items)) }
+        ensures count { IfOk result (λ _. length seats.items ≡ length (callers_of self)) }
+        ensures linked { IfOk result (λ r. AreLinked V.row.coded (meter V.owner_of V.life_of V.used_of) (wards_of self) (founding_of self).linked.items seats.items r.0.items) }
+        ensures spares { IfOk result (λ r. AreSpares V.row.coded (meter V.owner_of V.life_of V.used_of) seats.items r.1.items) }
         // each answer that a seat got of `sizes` is at most what the linked entries use now
         ensures used { IfOk result (λ r. (k : ℕ) (s : _) → get_elem? seats.items k ≡ some s → shown (view s) ≤ used_sum (meter V.owner_of V.life_of V.used_of) r.0.items) }
         ensures apart { IfOk result (λ r. AreApart (meter V.owner_of V.life_of V.used_of) (life_of self) (r.0.items ++ r.1.items)) }

@@ -3,6 +3,8 @@ ghost use Rattle.std.specs.Prelude.{◌≡◌, ℕ, ◌<◌, ◌≤◌, ◌++◌
 ghost use Rattle.std.specs.Slots.{slots_items, slots_len, IsFull};
 ghost use mathlib.Core.Option.{some};
 ghost use lib.ListN.{get_elem?};
+ghost use Rattle.arena_list.specs.Words.{word_count};
+ghost use Rattle.arena_list.specs.Core.{slot_count};
 ghost use Rattle.arena_list.specs.Founded.{slot, Differ};
 ghost use Rattle.arena_list.specs.Closed.{entry};
 ghost use Rattle.arena_list.specs.Collected.{place_of, AreIn, AreStored, Empties, Fills};
@@ -66,9 +68,9 @@ pub(crate) fn pull_linked<V: Part>(
     parts: &mut Vec<Option<V>>,
     linked: &mut Vec<Entry<V>>,
 )
-    requires words { IsFull closed.now.words × (slots_len closed.now.words ≡ 592) }
+    requires words { IsFull closed.now.words × (slots_len closed.now.words ≡ word_count) }
     requires stored { (es : _) × AreStored (slots_items closed.now.words) parts.old.items es }
-    requires room { (linked.old.items ≡ []) × (64 ≤ vec_capacity linked.old) }
+    requires room { (linked.old.items ≡ []) × (slot_count ≤ vec_capacity linked.old) }
     ensures { (es : _) → AreStored (slots_items closed.now.words) parts.old.items es → (linked.new.items ≡ es) × Empties parts.old.items parts.new.items es }
 {
     let head = closed.word(HEAD);

@@ -15,5 +15,5 @@ pub fn words_show_one_list()
 
 /// A law: a seat's slot has one value at most, though the seat doesn't name the type of the parts.
 pub fn a_slot_has_one_value<V: Part>()
-    ensures { (s : ListSeat) (x y : V) → HasValue V.row.coded (meter V.owner_of V.life_of V.used_of) s x → HasValue V.row.coded (meter V.owner_of V.life_of V.used_of) s y → x ≡ y }
+    ensures one_value { (s : ListSeat) (x y : V) → HasValue V.row.coded (meter V.owner_of V.life_of V.used_of) s x → HasValue V.row.coded (meter V.owner_of V.life_of V.used_of) s y → x ≡ y }
 {}

@@ -6,6 +6,8 @@
 //! linked callers without a seat lie with the list, where no step reaches them. No call waits.
 #![tactic(auto)]
 
+#[cfg(test)]
+mod callers;
 mod close;
 mod collect;
 mod entry;

@@ -1,5 +1,7 @@
 //! The list as its callers share it, and the seat with which one of them steps.
 ghost use Rattle.std.specs.Prelude.{◌≡◌, ◌<◌, ◌∷◌, [], length, map};
+ghost use Rattle.arena_list.specs.Words.{word_count};
+ghost use Rattle.arena_list.specs.Core.{slot_count};
 ghost use Rattle.arena_list.specs.Founded.{meter, others_of, slot, Differ};
 ghost use Rattle.arena_list.specs.Marks.{marks};
 ghost use Rattle.arena_list.specs.Steps.{sole, IsSeated};
@@ -37,7 +39,7 @@ pub struct ArenaList<V: Part> {
     pub(crate) table: Table<Option<V>, View<Mark>, Founding<V>, ListRule, Global>,
     // The linked entries of callers without a seat, oldest first. No step reaches their values.
     pub(crate) others: Vec<Entry<V>>,
-    ghost sized: { (table.shared.table_id.words ≡ 592) × (table.shared.table_id.slots ≡ 64) },
+    ghost sized: { (table.shared.table_id.words ≡ word_count) × (table.shared.table_id.slots ≡ slot_count) },
     ghost kept: { others.items ≡ others_of table.shared.key.linked.items table.shared.key.callers.items },
     ghost apart: { Differ (map slot others.items) },
     ghost called: { 0 < length table.shared.key.callers.items },

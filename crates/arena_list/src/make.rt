@@ -2,6 +2,7 @@
 ghost use Rattle.std.specs.Prelude.{◌≡◌, ◌≢◌, ℕ, true, false, None, ◌+◌, ◌-◌, ◌<◌, ◌≤◌, ◌++◌, ◌∷◌, [], length, map, reverse, drop, slice_index, IfOk, IfErr, IfSome, IfNone, vec_len, vec_capacity};
 ghost use mathlib.Core.Option.{some};
 ghost use lib.ListN.{get_elem?};
+ghost use Rattle.arena_list.specs.Words.{word_count};
 ghost use Rattle.arena_list.specs.Founded.{meter, AreFit, IsLaid, Fits, hand_from, hand_for, first_view, others_of, node_of, entry_of, has, Differ};
 ghost use Rattle.arena_list.specs.Marks.{marked_founding};
 ghost use Rattle.arena_list.specs.Made.{AreSeats, Places, IsMadeOf, AreFirst};
@@ -14,14 +15,11 @@ use crate::laying::opening_words;
 use crate::list::{ArenaList, ListSeat, OwnSeat, Words};
 use crate::plays::Deal;
 use crate::slots::put;
-use crate::steps::HEAD;
+use crate::steps::{HEAD, SLOTS};
 use crate::told::Told;
 use arena_mem::{NoMemory, Part};
 use atomic_table::Table;
 use std::alloc::Global;
-
-/// How many slots a list has.
-const SLOTS: usize = 64;
 
 /// The slot of a caller's linked entry, or else of its spare one, and whether it is linked.
 fn slot_for<V: Part>(linked: &[Entry<V>], spare: &[Entry<V>], caller: u32) -> (u32, bool)
@@ -64,7 +62,7 @@ fn deal<V: Part>(
     head: u64,
     seats: &mut Vec<ListSeat>,
 )
-    requires list { (first.table_id ≡ words.now.table_id) × (words.now.table_id.words ≡ 592) }
+    requires list { (first.table_id ≡ words.now.table_id) × (words.now.table_id.words ≡ word_count) }
     requires key { (words.now.key.linked.items ≡ linked.now) × (words.now.key.spare.items ≡ spare.now) × (words.now.key.callers.items ≡ callers.now) }
     requires fit { AreFit (meter V.owner_of V.life_of V.used_of) words.now.key.life words.now.key.linked.items words.now.key.spare.items words.now.key.callers.items }
     requires first { first.me ≡ (first_view (marked_founding V.row.coded (meter V.owner_of V.life_of V.used_of) words.now.key), []) }
@@ -91,7 +89,7 @@ fn deal<V: Part>(
 
 /// Gives an entry's value to its caller's seat. An entry whose caller has no seat comes back.
 fn place<V: Part>(words: &Words<V>, seats: &mut Vec<ListSeat>, entry: Entry<V>) -> Option<Entry<V>>
-    requires words { words.now.table_id.words ≡ 592 }
+    requires words { words.now.table_id.words ≡ word_count }
     requires fits { Fits (meter V.owner_of V.life_of V.used_of) words.now.key.life entry.caller entry.part }
     requires once { Differ words.now.key.callers.items }
     requires fit { AreFit (meter V.owner_of V.life_of V.used_of) words.now.key.life words.now.key.linked.items words.now.key.spare.items words.now.key.callers.items }
@@ -122,7 +120,7 @@ fn fill<V: Part>(
     earlier: &Told<Entry<V>>,
     others: &mut Vec<Entry<V>>,
 )
-    requires words { words.now.table_id.words ≡ 592 }
+    requires words { words.now.table_id.words ≡ word_count }
     requires fit { AreFit (meter V.owner_of V.life_of V.used_of) words.now.key.life words.now.key.linked.items words.now.key.spare.items words.now.key.callers.items }
     requires seats { AreSeats V.row.coded (meter V.owner_of V.life_of V.used_of) words.now.key words.now.table_id words.now.key.callers.items earlier.now.items seats.old.items }
     requires piece { (front : _) × (front ++ (entries.items ++ earlier.now.items) ≡ words.now.key.linked.items ++ words.now.key.spare.items) }
@@ -163,7 +161,7 @@ impl<V: Part> ArenaList<V> {
     /// A list of the linked entries, oldest first, and a seat for each caller, in their order. A caller that no linked
     /// entry has gets its spare one. Want of memory hands all entries back.
     ///
-    /// All slots differ and are below 64. The callers differ, there is one at least, and no two linked entries have one
+    /// All slots differ and are below `slot_count`. The callers differ, there is one at least, and no two linked entries have one
     /// caller. The spare entries are those of the callers that no linked entry has, in the order of the callers. Each
     /// part has its entry's caller as owner, this life, and less than 2^63 bytes used.
     pub fn make(
@@ -175,7 +173,7 @@ impl<V: Part> ArenaList<V> {
     ) -> Result<(ArenaList<V>, Vec<ListSeat>), (NoMemory, Vec<Entry<V>>, Vec<Entry<V>>)>
         requires fit { AreFit (meter V.owner_of V.life_of V.used_of) life linked.items spare.items callers.now }
         ensures list { IfOk result (λ r. IsMadeOf life linked.items spare.items callers.now r.0) }
-        ensures seats { IfOk result (λ r. AreFirst V.row.coded (meter V.owner_of V.life_of V.used_of) r.0 callers.now r.1.items) }
+        ensures seats { IfOk result (λ r. AreFirst V.row.coded (meter V.owner_of V.life_of V.used_of) r.0 linked.items spare.items callers.now r.1.items) }
         ensures refused { IfErr result (λ e. (e.1.items ≡ linked.items) × (e.2.items ≡ spare.items)) }
     {
         let Ok((mut others, mut seats)) = rooms(alloc, linked.len() + spare.len(), callers.len())

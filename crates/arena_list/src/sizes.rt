@@ -1,8 +1,9 @@
 //! A caller adds up what the list has used.
 ghost use Rattle.std.specs.Prelude.{◌≡◌, ◌^◌, ◌<◌, ◌≤◌, slice_index};
+ghost use Rattle.arena_list.specs.Core.{slot_count};
 ghost use Rattle.arena_list.specs.Marks.{marks};
 ghost use Rattle.arena_list.specs.Views.{hand, out};
-ghost use Rattle.arena_list.specs.Steps.{sized, used_now};
+ghost use Rattle.arena_list.specs.After.{sized, used_now};
 ghost use Rattle.arena_list.specs.Moments.{SeenSize};
 ghost use Rattle.arena_list.specs.Calls.{HasSummed};
 ghost use Rattle.arena_list.specs.Seats.{view, IsSeatOf, SameList};
@@ -38,7 +39,7 @@ impl<V: Part> ArenaList<V> {
     /// Loads the state of a slot, and answers the used sum that it shows.
     fn read_size(&self, seat: &mut ListSeat, slot: u64) -> u64
         requires list { IsSeatOf self.now seat.old }
-        requires slot { slot < 64 }
+        requires slot { slot < slot_count }
         ensures list { SameList seat.old seat.new }
         ensures view { view seat.new ≡ sized (view seat.old) slot result }
         ensures more { slice_index (view seat.old).sizes slot ≤ result }

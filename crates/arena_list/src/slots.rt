@@ -1,10 +1,12 @@
 //! A caller takes the value out of its slot, and gives it back.
 ghost use Rattle.std.specs.Prelude.{◌≡◌, ℕ, ◌≤◌, Some};
+ghost use Rattle.arena_list.specs.Words.{word_count};
 ghost use Rattle.arena_list.specs.declared.view.Hold.TheVariants.{Away, Rests};
 ghost use Rattle.arena_list.specs.Founded.{meter, Fits};
 ghost use Rattle.arena_list.specs.Marks.{marks, mark};
 ghost use Rattle.arena_list.specs.Views.{who, mine, out, shown};
-ghost use Rattle.arena_list.specs.Steps.{IsOut, used_now, held, settled};
+ghost use Rattle.arena_list.specs.After.{IsOut, used_now, with_seat, held, settled};
+ghost use Rattle.arena_list.specs.Moments.{SeenTake, SeenGive};
 ghost use Rattle.arena_list.specs.Seats.{view, life_of, IsSeatOf, SameList, HasValue};
 
 use crate::list::{ArenaList, ListSeat, Words, take_up};
@@ -23,6 +25,7 @@ impl<V: Part> ArenaList<V> {
         // the value given last, or the one handed to `make`
         ensures value { HasValue V.row.coded (meter V.owner_of V.life_of V.used_of) seat.old result }
         ensures view { view seat.new ≡ held (view seat.old) (Away (V.used_of result)) }
+        ensures moment { SeenTake marks (view seat.old).base (view seat.old) (V.used_of result) }
     {
         let words = &self.table.shared;
         let state = STATES + slot as usize * STRIDE;
@@ -47,6 +50,7 @@ impl<V: Part> ArenaList<V> {
         requires part { Fits (meter V.owner_of V.life_of V.used_of) (life_of self.now) (who (view seat.old)) part }
         ensures list { SameList seat.old seat.new }
         ensures view { view seat.new ≡ settled marks (view seat.old) (mark V.row.coded (meter V.owner_of V.life_of V.used_of) part) }
+        ensures moment { SeenGive marks (view seat.old).base (held (view seat.old) (with_seat (out (view seat.old)))) (mark V.row.coded (meter V.owner_of V.life_of V.used_of) part) }
         // what a seat was shown never falls
         ensures earlier { shown (view seat.old) ≤ shown (view seat.new) }
     {
@@ -57,12 +61,13 @@ impl<V: Part> ArenaList<V> {
 
 /// Gives a value to a seat's slot, which is empty.
 pub(crate) fn put<V: Part>(words: &Words<V>, seat: &mut ListSeat, part: V)
-    requires list { (seat.old.badge.table_id ≡ words.now.table_id) × (words.now.table_id.words ≡ 592) }
+    requires list { (seat.old.badge.table_id ≡ words.now.table_id) × (words.now.table_id.words ≡ word_count) }
     requires out { IsOut (out (view seat.old)) }
     requires more { used_now marks (out (view seat.old)) ≤ V.used_of part }
     requires part { Fits (meter V.owner_of V.life_of V.used_of) words.now.key.life (who (view seat.old)) part }
     ensures list { SameList seat.old seat.new }
     ensures view { view seat.new ≡ settled marks (view seat.old) (mark V.row.coded (meter V.owner_of V.life_of V.used_of) part) }
+    ensures moment { SeenGive marks (view seat.old).base (held (view seat.old) (with_seat (out (view seat.old)))) (mark V.row.coded (meter V.owner_of V.life_of V.used_of) part) }
     ensures earlier { shown (view seat.old) ≤ shown (view seat.new) }
 {
     let slot = seat.slot as usize;

@@ -2,16 +2,21 @@
 ghost use Rattle.std.specs.Prelude.{◌≡◌, ℕ, ◌+◌, ◌<◌, ◌≤◌, ◌++◌, ◌∷◌, [], Bool, true, false, Some, None, length, IsTrue};
 ghost use mathlib.Core.Option.{some};
 ghost use lib.ListN.{get_elem?};
+ghost use Rattle.arena_list.specs.Core.{slot_count};
 ghost use Rattle.arena_list.specs.Nodes.{before, head_of, node_word, Begins};
 ghost use Rattle.arena_list.specs.Marks.{marks};
 ghost use Rattle.arena_list.specs.Views.{hand};
-ghost use Rattle.arena_list.specs.Moments.{SeenList};
-ghost use Rattle.arena_list.specs.Steps.{Sees, counted, looked, noted, joined};
+ghost use Rattle.arena_list.specs.Moments.{SeenList, SeenJoin};
+ghost use Rattle.arena_list.specs.After.{counted, looked, noted, joined};
+ghost use Rattle.arena_list.specs.Steps.{Sees};
 ghost use Rattle.arena_list.specs.Seats.{view, IsSeatOf, SameList};
 
 use crate::list::{ArenaList, ListSeat, take_up};
 use crate::plays::{Link, Look, ReadNode, StoreNode};
 use arena_mem::Part;
+
+/// How many slots a list has, and so how many callers stand in it at most.
+pub(crate) const SLOTS: usize = 64;
 
 /// The word of the head.
 pub(crate) const HEAD: usize = 0;
@@ -47,7 +52,7 @@ impl<V: Part> ArenaList<V> {
     /// Loads the node of a slot, and answers it.
     pub(crate) fn read_node(&self, seat: &mut ListSeat, slot: u64) -> u64
         requires list { IsSeatOf self.now seat.old }
-        requires slot { slot < 64 }
+        requires slot { slot < slot_count }
         ensures list { SameList seat.old seat.new }
         ensures view { view seat.new ≡ counted (view seat.old) }
         ensures node { (k : ℕ) (n : _) → get_elem? (view seat.old).seen k ≡ some n → slot ≡ n.slot → result ≡ node_word n.caller (before (view seat.old).seen k) }
@@ -64,7 +69,7 @@ impl<V: Part> ArenaList<V> {
         requires list { IsSeatOf self.now seat.old }
         requires spare { (hand (view seat.old)).linked ≡ false }
         ensures list { SameList seat.old seat.new }
-        ensures linked { IsTrue result → (view seat.new ≡ joined (noted (view seat.old))) × SeenList marks (view seat.old).base (noted (view seat.old)) (view seat.old).seen }
+        ensures linked { IsTrue result → (view seat.new ≡ joined (noted (view seat.old))) × SeenJoin marks (view seat.old).base (noted (view seat.old)) }
         ensures longer { result ≡ false → (view seat.new ≡ looked (noted (view seat.old)) (view seat.new).seen) × Begins (view seat.old).seen (view seat.new).seen × (length (view seat.old).seen < length (view seat.new).seen) }
     {
         let words = &self.table.shared;

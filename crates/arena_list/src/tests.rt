@@ -1,10 +1,11 @@
 //! Worked lists, and lists on many threads.
 ghost use Rattle.std.specs.Prelude.{◌≡◌, ◌≤◌, ◌<◌, [], ◌∷◌, Some, IfOk, All, length};
 ghost use Rattle.std.specs.Thread.{IsSync};
+ghost use Rattle.arena_list.specs.Core.{slot_count};
 ghost use Rattle.arena_list.specs.Founded.{meter, AreFit, Fits};
 ghost use Rattle.arena_list.specs.Views.{mine};
 ghost use Rattle.arena_list.specs.contracts.tests.Counter.{the_row};
-ghost use Rattle.arena_list.specs.Seats.{view, IsHome, AreHome};
+ghost use Rattle.arena_list.specs.Seats.{view, callers_of, IsHome, AreHome};
 
 use crate::{ArenaList, Entry, ListSeat};
 use arena_mem::Part;
@@ -43,9 +44,9 @@ impl Part for Counter {
 /// Spare entries for callers 4, 7, 10 and on, in slots 0, 1, 2 and on. A list may have them alone, or beside a linked
 /// entry of caller 99.
 fn spares(alloc: Global, count: u32) -> Result<(Vec<Entry<Counter>>, Vec<u32>), Fail>
-    requires { (0 < count) × (count ≤ 64) }
+    requires { (0 < count) × (count ≤ slot_count) }
     ensures fit { IfOk result (λ r. AreFit (meter (λ (c : Counter). c.owner) (λ (c : Counter). c.life) (λ (c : Counter). c.used)) 5 [] r.0.items r.1.items) }
-    ensures beside { IfOk result (λ r. (e : _) → count ≤ e.slot → e.slot < 64 → e.caller ≡ 99 → Fits (meter (λ (c : Counter). c.owner) (λ (c : Counter). c.life) (λ (c : Counter). c.used)) 5 e.caller e.part → AreFit (meter (λ (c : Counter). c.owner) (λ (c : Counter). c.life) (λ (c : Counter). c.used)) 5 (e ∷ []) r.0.items r.1.items) }
+    ensures beside { IfOk result (λ r. (e : _) → count ≤ e.slot → e.slot < slot_count → e.caller ≡ 99 → Fits (meter (λ (c : Counter). c.owner) (λ (c : Counter). c.life) (λ (c : Counter). c.used)) 5 e.caller e.part → AreFit (meter (λ (c : Counter). c.owner) (λ (c : Counter). c.life) (λ (c : Counter). c.used)) 5 (e ∷ []) r.0.items r.1.items) }
     ensures count { IfOk result (λ r. length r.1.items ≡ count) }
 {
     let mut spare = Vec::new(alloc);
@@ -73,7 +74,7 @@ fn made(
     requires { AreFit (meter (λ (c : Counter). c.owner) (λ (c : Counter). c.life) (λ (c : Counter). c.used)) 5 linked.items spare.items callers.now }
     ensures home { IfOk result (λ r. All (IsHome the_row.coded (meter (λ (c : Counter). c.owner) (λ (c : Counter). c.life) (λ (c : Counter). c.used)) r.0) r.1.items) }
     ensures count { IfOk result (λ r. length r.1.items ≡ length callers.now) }
-    ensures callers { IfOk result (λ r. length r.0.table.shared.key.callers.items ≡ length callers.now) }
+    ensures callers { IfOk result (λ r. length (callers_of r.0) ≡ length callers.now) }
 {
     match ArenaList::make(alloc, 5, linked, spare, callers) {
         Ok(made) => Ok(made),
@@ -87,7 +88,7 @@ fn closed(
     list: ArenaList<Counter>,
     seats: Vec<ListSeat>,
 ) -> Result<(Vec<Entry<Counter>>, Vec<Entry<Counter>>), Fail>
-    requires count { length seats.items ≡ length list.table.shared.key.callers.items }
+    requires enough { length (callers_of list) ≤ length seats.items }
     requires home { All (IsHome the_row.coded (meter (λ (c : Counter). c.owner) (λ (c : Counter). c.life) (λ (c : Counter). c.used)) list) seats.items }
 {
     match list.close(alloc, seats) {
@@ -105,7 +106,7 @@ fn made_again(
     requires { AreFit (meter (λ (c : Counter). c.owner) (λ (c : Counter). c.life) (λ (c : Counter). c.used)) 5 [] spare.items callers.now }
     ensures home { IfOk result (λ r. All (IsHome the_row.coded (meter (λ (c : Counter). c.owner) (λ (c : Counter). c.life) (λ (c : Counter). c.used)) r.0) r.1.items) }
     ensures count { IfOk result (λ r. length r.1.items ≡ length callers.now) }
-    ensures callers { IfOk result (λ r. length r.0.table.shared.key.callers.items ≡ length callers.now) }
+    ensures callers { IfOk result (λ r. length (callers_of r.0) ≡ length callers.now) }
 {
     match ArenaList::make(alloc, 5, Vec::new(alloc), spare, callers) {
         Ok(made) => Ok(made),
@@ -119,7 +120,7 @@ fn closed_again(
     list: ArenaList<Counter>,
     seats: Vec<ListSeat>,
 ) -> Result<(Vec<Entry<Counter>>, Vec<Entry<Counter>>), Fail>
-    requires count { length seats.items ≡ length list.table.shared.key.callers.items }
+    requires enough { length (callers_of list) ≤ length seats.items }
     requires home { All (IsHome the_row.coded (meter (λ (c : Counter). c.owner) (λ (c : Counter). c.life) (λ (c : Counter). c.used)) list) seats.items }
 {
     match list.close(alloc, seats) {
@@ -143,7 +144,7 @@ fn are(entries: &[Entry<Counter>], wanted: &[(u32, u32, u64)]) -> bool {
 
 /// Whether one entry lies in this slot, with its caller and 24 bytes used.
 fn stands_once(entries: &[Entry<Counter>], slot: u32) -> bool
-    requires { slot < 64 }
+    requires { slot < slot_count }
 {
     let mut is_found = false;
     for entry in entries {
@@ -261,7 +262,7 @@ fn work_both<R: Threads + Sync>(
 /// Whether each of so many callers, all at work at the same time, joined with its own slot, all their bytes are counted,
 /// and the closed list has each caller once.
 fn side_by_side<R: Threads + Sync>(rt: &R, alloc: Global, count: u32) -> Result<bool, Fail>
-    requires { (0 < count) × (count ≤ 64) }
+    requires { (0 < count) × (count ≤ slot_count) }
 {
     let (spare, callers) = spares(alloc, count)?;
     let (list, mut seats) = made(alloc, Vec::new(alloc), spare, callers.as_slice())?;

@@ -12,8 +12,10 @@ pub struct Node {
 pub enum Hold<V> {
     /// In the hand of `make`: the slot isn't filled yet.
     Vacant,
-    /// The slot is with the seat within a call, and shows this used sum.
-    Filling { used: u64 },
+    /// Within `make`: the slot is with the seat, to be filled for the first time.
+    Filling,
+    /// Within a take or a give: the slot, which is in the list, is with the seat, and shows this used sum.
+    Moving { used: u64 },
     /// The value is out, and had this used sum when it was taken. The emptied slot is at home.
     Away { used: u64 },
     /// At home in the slot.

@@ -33,7 +33,7 @@ impl<V: Part> ArenaList<V> {
     }
 
     /// Links the caller's spare at the end of the list, and answers its slot. It takes no memory, and two list steps
-    /// for each of at most 64 tries: an exchange that fails showed a longer list.
+    /// for each of at most `slot_count` tries: an exchange that fails showed a longer list.
     pub fn join(&self, seat: &mut ListSeat) -> u32
         requires list { IsSeatOf self.now seat.old }
         requires spare { mine (view seat.old) ≡ None }

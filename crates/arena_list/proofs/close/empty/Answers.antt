@@ -9,9 +9,10 @@ use lib.ListN.{get_elem?}
 use Rattle.arena_list.proofs.Lists.{at_end}
 use Rattle.arena_list.proofs.Gathering.{filled_low}
 use Rattle.arena_list.proofs.close.empty.Goals as goal
+use Rattle.arena_list.specs.Core.{slot_count}
 
 pub loop-slot-preserved : goal.loop-slot-preserved
-loop-slot-preserved g c = let i = c.loop-slot.invariant in let t = c.take.ensures in let n : ℕ = c.loop-slot.slot in let low : n < 64 = c.loop-slot-test.true in let filled = slots_filled c.loop-slot.closed.slots in
+loop-slot-preserved g c = let i = c.loop-slot.invariant in let t = c.take.ensures in let n : ℕ = c.loop-slot.slot in let low : n < slot_count = c.loop-slot-test.true in let filled = slots_filled c.loop-slot.closed.slots in
     let items = c.in_default.ensures.items in let here : slice_index_or filled n false ≡ true = i.7 n (omega arith) low in (
       t.others.0 ∙ i.0,
       t.others.2 ∙ i.1,

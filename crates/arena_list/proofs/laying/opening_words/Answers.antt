@@ -1,6 +1,7 @@
 use Rattle.std.proofs.Common.{refl}
 use Rattle.arena_list.proofs.Joining.{zeros}
 use Rattle.arena_list.proofs.laying.opening_words.Goals as goal
+use Rattle.arena_list.specs.Words.{word_count}
 
 pub lay-requires-clause-zeros : goal.lay-requires-clause-zeros
-lay-requires-clause-zeros g c = (refl, zeros 592)
+lay-requires-clause-zeros g c = (refl, zeros word_count)

@@ -34,7 +34,7 @@ invariant_of-result g c = let key = c.in-Ok-vacant.ensures.5 in let linked_is = 
 
 pub returns-clause-seats : goal.returns-clause-seats
 returns-clause-seats g c = let key = c.in-Ok-vacant.ensures.5 in let linked_told = c.of.ensures ∙ c.as_slice-2.ensures.value in let spare_told = c.of-2.ensures ∙ c.as_slice-3.ensures.value in
-    let linked_is = ap (λ k. k.linked.items) key ∙ linked_told in let callers_is = ap (λ k. k.callers.items) key ∙ c.of-3.ensures in
+    let linked_is = ap (λ k. k.linked.items) key ∙ linked_told in let spare_is = ap (λ k. k.spare.items) key ∙ spare_told in let callers_is = ap (λ k. k.callers.items) key ∙ c.of-3.ensures in
     let fit = fit_as (meter g.V.Part.owner_of g.V.Part.life_of g.V.Part.used_of) c.args.life c.args.linked.items c.of.result.items c.args.spare.items c.of-2.result.items c.args.callers.now c.of-3.result.items linked_told spare_told c.of-3.ensures c.requires.fit in
-    are_first g.row.V.coded (meter g.V.Part.owner_of g.V.Part.life_of g.V.Part.used_of) _ (subst (λ (k : Founding g.row.V.Denot). AreFit (meter g.V.Part.owner_of g.V.Part.life_of g.V.Part.used_of) k.life k.linked.items k.spare.items k.callers.items) (sym key) fit) c.args.callers.now (c.args.linked.items ++ c.of-2.result.items) c.fill-2.new.seats.items callers_is
+    are_first g.row.V.coded (meter g.V.Part.owner_of g.V.Part.life_of g.V.Part.used_of) _ (subst (λ (k : Founding g.row.V.Denot). AreFit (meter g.V.Part.owner_of g.V.Part.life_of g.V.Part.used_of) k.life k.linked.items k.spare.items k.callers.items) (sym key) fit) c.args.linked.items c.args.spare.items c.args.callers.now (c.args.linked.items ++ c.of-2.result.items) c.fill-2.new.seats.items linked_is spare_is callers_is
     (λ i. sym linked_is i ++ sym (ap (λ k. k.spare.items) key) i) c.fill-2.ensures.seats

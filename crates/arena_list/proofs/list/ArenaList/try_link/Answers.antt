@@ -10,7 +10,8 @@ use Rattle.atomic_table.specs.Table.{step}
 use Rattle.arena_list.specs.Founded.{meter}
 use Rattle.arena_list.specs.Marks.{marks, marked_founding}
 use Rattle.arena_list.specs.Seats.{view}
-use Rattle.arena_list.specs.Steps.{noted, looked, stored_node, tried_link}
+use Rattle.arena_list.specs.After.{noted, looked}
+use Rattle.arena_list.specs.Steps.{stored_node, tried_link}
 use Rattle.arena_list.proofs.Badges.{up, allows, tells, no_slot, lone, seated_laid, laid_view, seen}
 use Rattle.arena_list.proofs.SeatFacts.{note_step, link_step, seated_linked, seated_missed}
 use Rattle.arena_list.proofs.list.ArenaList.try_link.Goals as goal
