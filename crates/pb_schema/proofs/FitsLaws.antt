@@ -5,7 +5,7 @@ use Rattle.pb_schema.specs.declared.kind.Kind.{Kind}
 use Rattle.pb_schema.specs.declared.kind.Kind.TheVariants as kinds
 use Rattle.pb_schema.specs.declared.kind.FieldType.{FieldType}
 use Rattle.pb_schema.specs.declared.schema.Schema.{Schema}
-use Rattle.pb_schema.specs.Kinds.{ValueType, Scalar, Characters, Octets, Nested, value_type_of, value_wire, is_number, low_32, truth, unzigzag}
+use Rattle.pb_schema.specs.Kinds.{wire_numbers, ValueType, Scalar, Characters, Octets, Nested, value_type_of, value_wire, is_number, low_32, truth, unzigzag}
 use Rattle.pb_schema.specs.Cards.{is_repeated}
 use Rattle.pb_schema.specs.Record.{Record}
 use Rattle.pb_schema.specs.Fits.{Anything, Message, wire_of, takes, contents_of, fields_within}
@@ -14,12 +14,6 @@ use Rattle.pb_schema.specs.TreeOf.{little_endian, number_in}
 use Rattle.pb_schema.proofs.FormLaws.{read_bytes_ok}
 
 -- NUMBERS
-
--- how many numbers a value of a wire type spells
-abbrev pub most_of : ℕ → ℕ
-most_of zero = 2 ^ 64
-most_of (suc zero) = 2 ^ 64
-most_of (suc (suc wire)) = 2 ^ 32
 
 -- as many bytes as a value of the wire type has
 abbrev pub IsSized : ℕ → List ℕ → Type 0
@@ -31,12 +25,12 @@ little_below : (s : List ℕ) → little_endian s < 256 ^ length s
 little_below [] = omega arith
 little_below (b ∷ s) = omega (arith, pow-suc 256 (length s), little_below s)
 
-pub number_below : (wire : ℕ) (s : List ℕ) → IsSized wire s → number_in wire s < most_of wire
+pub number_below : (wire : ℕ) (s : List ℕ) → IsSized wire s → number_in wire s < wire_numbers wire
 number_below zero s p = omega arith
 number_below (suc zero) s p = subst (λ n. little_endian s < 256 ^ n) p (little_below s)
 number_below (suc (suc wire)) s p = subst (λ n. little_endian s < 256 ^ n) p (little_below s)
 
-pub front_below : (wire : ℕ) (s : List ℕ) (n : ℕ) → read_scalar wire 0 s ≡ Ok n → number_in wire (take n s) < most_of wire
+pub front_below : (wire : ℕ) (s : List ℕ) (n : ℕ) → read_scalar wire 0 s ≡ Ok n → number_in wire (take n s) < wire_numbers wire
 front_below zero s n e = omega arith
 front_below (suc zero) s n e = read_bytes_ok 8 0 s n e λ same fits. number_below 1 (take n s) (length-take-le n s (omega (arith, same, fits)) ∙ sym same)
 front_below (suc (suc zero)) s n e = let same : 0 ≡ n = cc in subst (λ k. number_in 2 (take k s) < 2 ^ 32) same (omega arith)
@@ -47,7 +41,7 @@ front_below (suc (suc (suc (suc (suc (suc wire)))))) s n e = let same : 0 ≡ n 
 
 -- what the table of kinds says of numbers
 abbrev pub ScalarFacts : ValueType → Type 0
-ScalarFacts (Scalar coding) = (coding.wire ≢ 2) × (coding.wire ≢ 3) × ((v : ℕ) → v < most_of coding.wire → coding.kept v < coding.patterns)
+ScalarFacts (Scalar coding) = (coding.wire ≢ 2) × (coding.wire ≢ 3) × ((v : ℕ) → v < wire_numbers coding.wire → coding.kept v < coding.patterns)
 ScalarFacts Characters = Unit {0}
 ScalarFacts Octets = Unit {0}
 ScalarFacts (Nested type_no) = Unit {0}

@@ -20,6 +20,8 @@ pub mod SoundRecords
 pub mod Gathering
 pub mod FittedLaws
 pub mod ShapeLaws
+pub mod AppendLaws
+pub mod KindLaws
 pub mod CostLaws
 mod Rows
 mod Examples

@@ -111,7 +111,7 @@ numbers_anywhere wire at at2 zero (b ∷ s) found =
     (rest.0, ap (λ r. r >>= λ n. numbers_end wire (suc at2) (n - 1) s) (scalar_anywhere wire at at2 (b ∷ s) n was) ∙ rest.1)
 
 -- what a payload is doesn't depend on where it begins
-abbrev Anywhere : Schema → ℕ → Type 0
+abbrev pub Anywhere : Schema → ℕ → Type 0
 Anywhere schema left = (c : Contents) (tag at tag2 at2 : ℕ) (payload : List ℕ) → Finds (read_contents schema (deeper_left schema left) tag at payload c) → Finds (read_contents schema (deeper_left schema left) tag2 at2 payload c)
 
 text_anywhere : (at at2 : ℕ) (b : Bool) → Finds (cond b (Ok at) (fault NotUtf8 at)) → Finds (cond b (Ok at2) (fault NotUtf8 at2))
@@ -119,7 +119,7 @@ text_anywhere at at2 true found = (at2, refl)
 text_anywhere at at2 false found = not_ok (record { kind = NotUtf8; byte = at }) found.0 found.1
 
 -- a record at the front is read
-typed_held : (schema : Schema) (left : ℕ) (fields : List FieldType) (at : ℕ) (s : List ℕ) (form whole : Form) → Anywhere schema left → read_held no_types (deeper_left no_types left) [] at s form ≡ Ok whole → Holds schema left fields (record_of whole s) → read_held schema (deeper_left schema left) fields at s form ≡ Ok whole
+pub typed_held : (schema : Schema) (left : ℕ) (fields : List FieldType) (at : ℕ) (s : List ℕ) (form whole : Form) → Anywhere schema left → read_held no_types (deeper_left no_types left) [] at s form ≡ Ok whole → Holds schema left fields (record_of whole s) → read_held schema (deeper_left schema left) fields at s form ≡ Ok whole
 typed_held schema left fields at s form whole anywhere e holds = cases (eqb form.wire 3) refl
   where
     untyped : read_held schema (deeper_left schema left) [] at s form ≡ Ok whole
@@ -160,7 +160,7 @@ pub deeper_is : {P : Type 0} (schema : Schema) (deeper : Deeper) (tag at : ℕ) 
 deeper_is schema deeper tag at payload type_no found k =
     bind_ok (deeper tag (in_message (fields_of schema type_no)) at payload) (λ stop. Ok stop.1) found.0 found.1 λ stop was is. k (stop, was)
 
-anywhere : (schema : Schema) (left : ℕ) → Anywhere schema left
+pub anywhere : (schema : Schema) (left : ℕ) → Anywhere schema left
 anywhere schema left Anything tag at tag2 at2 payload found = (at2, refl)
 anywhere schema left (Numbers wire) tag at tag2 at2 payload found = numbers_anywhere wire at at2 0 payload found
 anywhere schema left Utf8 tag at tag2 at2 payload found = text_anywhere at at2 (is_utf8 payload) found

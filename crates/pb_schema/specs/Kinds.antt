@@ -1,6 +1,6 @@
 -- The kinds of value: their wire types, and how a number stands on the wire and as a bit pattern (encoding guide, "Condensed Reference Card" and "More Integer Types"; proto3 guide, "Scalar Value Types"; descriptor.proto, `FieldDescriptorProto.Type`).
 -- Each rule about kinds is a rule over the table `value_type_of`.
-use Rattle.std.specs.Prelude.{◌+◌, ◌-◌, ◌*◌, ◌/◌, ◌%◌, ◌^◌, ℕ, Bool, true, false, nat_lt, ◌==◌, if◌then◌else◌}
+use Rattle.std.specs.Prelude.{◌+◌, ◌-◌, ◌*◌, ◌/◌, ◌%◌, ◌^◌, ℕ, zero, suc, Bool, true, false, nat_lt, ◌==◌, if◌then◌else◌}
 use Rattle.pb_schema.specs.declared.kind.Kind.{Kind}
 use Rattle.pb_schema.specs.declared.kind.Kind.TheVariants as kinds
 
@@ -82,6 +82,12 @@ value_type_of kinds.SInt64 = Scalar (record { wire = 0; slot = 8; patterns = 2 ^
 abbrev pub value_wire : ValueType → ℕ
 value_wire (Scalar coding) = coding.wire
 value_wire _ = 2
+
+-- how many numbers a value of a wire type spells: 64 bits, or the 32 of four bytes
+abbrev pub wire_numbers : ℕ → ℕ
+wire_numbers zero = 2 ^ 64
+wire_numbers (suc zero) = 2 ^ 64
+wire_numbers (suc (suc wire)) = 2 ^ 32
 
 -- how many bytes a record in memory has for a single value
 abbrev pub slot_of : ValueType → ℕ

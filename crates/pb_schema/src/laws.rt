@@ -23,12 +23,14 @@ ghost use Rattle.pb_schema.specs.ShapeOf.{shape_of};
 ghost use Rattle.pb_schema.specs.Broken.{broken_of};
 ghost use Rattle.pb_schema.specs.Fits.{Message, contents_of, fields_of, no_types};
 ghost use Rattle.pb_schema.specs.Fault.{fault_of, most_levels};
-ghost use Rattle.pb_schema.specs.TreeOf.{tree_of};
+ghost use Rattle.pb_schema.specs.TreeOf.{tree_of, records_in, pattern_in};
+ghost use Rattle.pb_schema.specs.declared.kind.Kind.{Kind};
+ghost use Rattle.pb_schema.specs.Kinds.{Coding, Scalar, value_type_of, wire_numbers};
 ghost use Rattle.pb_schema.specs.Fitted.{Fitted};
 ghost use Rattle.pb_schema.specs.Lawful.{Lawful};
 ghost use Rattle.pb_schema.specs.Empty.{empty};
 ghost use Rattle.pb_schema.specs.Merge.{merge_of, shape_merge};
-ghost use Rattle.pb_schema.specs.Text.{framed, text_of};
+ghost use Rattle.pb_schema.specs.Text.{framed, number_text, text_of};
 
 /// A varint has one to `most` bytes, each but the last at least 128 and the last below 128, and its value is the sum
 /// of the low seven bits of each byte times 128 to the byte's place, modulo 2^64.
@@ -85,6 +87,20 @@ pub fn a_tree_where_no_fault()
 /// field is whole records, and messages nest at most 100 levels deep.
 pub fn decoded_trees_are_fitted()
     ensures { (schema : Schema) (type_no : ℕ) (s : List ℕ) (t : Tree) → Lawful schema → tree_of schema type_no s ≡ Some t → Fitted schema type_no t }
+{}
+
+/// A payload that is one without a fault and what stands behind it has no fault exactly where what stands behind has
+/// none, and its records are those of the first and then those of the second.
+pub fn what_stands_behind()
+    ensures fault { (schema : Schema) (type_no depth : ℕ) (x y : List ℕ) → fault_of schema type_no depth x ≡ None → (fault_of schema type_no depth (x ++ y) ≡ None) ↔ (fault_of schema type_no depth y ≡ None) }
+    ensures records { (schema : Schema) (type_no depth : ℕ) (x y : List ℕ) → fault_of schema type_no depth x ≡ None → fault_of schema type_no depth (x ++ y) ≡ None → records_in (most_levels - depth) (x ++ y) ≡ records_in (most_levels - depth) x ++ records_in (most_levels - depth) y }
+{}
+
+/// The number that is written for a pattern of a kind is one that its wire type holds and is read as the pattern, and so
+/// are the bytes of that number.
+pub fn kinds_read_what_they_write()
+    ensures number { (kind : Kind) (coding : Coding) (p : ℕ) → value_type_of kind ≡ Scalar coding → p < coding.patterns → (coding.kept (coding.spelled p) ≡ p) × (coding.spelled p < wire_numbers coding.wire) }
+    ensures bytes { (kind : Kind) (coding : Coding) (p : ℕ) → value_type_of kind ≡ Scalar coding → p < coding.patterns → pattern_in coding (number_text coding.wire (coding.spelled p)) ≡ p }
 {}
 
 /// The shape of payloads, with the pieces of its unknown bytes joined at every level, is the tree of the payloads one
