@@ -3,7 +3,8 @@ ghost use Rattle.std.specs.Prelude.{◌≤◌};
 ghost use Rattle.arena_mem.specs.Places.{IsPlaceable};
 
 use crate::{
-    SerialArena, SerialRecord, blocks_hold_places, laid_spans_lie_apart, places_lie_apart,
+    SerialArena, SerialRecord, arena_is_laid, blocks_hold_places, laid_spans_lie_apart,
+    places_lie_apart,
 };
 use arena_block::Policy;
 use arena_mem::{Buffer, MemFault, Memory, Part, Place};
@@ -70,6 +71,7 @@ fn blocks_double_and_are_filled(rt: HostRuntime) -> Result<(), Fail> {
     }
     assert_eq!(rt; arena.space_used(), 40984);
     assert_eq!(rt; arena.used(), 40984);
+    arena_is_laid(&arena);
     places_lie_apart(&arena);
     blocks_hold_places(&arena);
     laid_spans_lie_apart();
@@ -96,7 +98,7 @@ fn a_write_changes_one_place(rt: HostRuntime) -> Result<(), Fail> {
     Ok(())
 }
 
-// Places a part of three blocks' sizes each, and copies fronts between them, in both orders of the blocks.
+// The first place has a block of its own, and the other two are in the next one.
 #[test]
 fn fronts_are_copied_within_a_block_and_between_blocks(rt: HostRuntime) -> Result<(), Fail> {
     let mut arena = SerialArena::new(rt.alloc(), Policy::profile(), 0, 0, 0);

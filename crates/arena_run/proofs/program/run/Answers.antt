@@ -30,3 +30,6 @@ returns-clause-few g c = omega (arith, c.cat-fault.ensures.few, unused_has_none 
 
 pub returns-clause-few_buffers : goal.returns-clause-few_buffers
 returns-clause-few_buffers g c = omega (arith, c.cat-fault.ensures.few_buffers, unused_keeps_none c.args.arena c.requires.no_buffers)
+
+pub cat-fault-requires : goal.cat-fault-requires
+cat-fault-requires g c region = omega (arith, c.blocks_hold_places.ensures region, unused_has_none c.args.arena c.requires.no_placements)
