@@ -17,10 +17,10 @@ mod wire_fault;
 pub use kind::{Card, FieldType, Kind};
 pub use laws::{
     a_tree_where_no_fault, decoded_trees_are_fitted, empty_merges_to_the_same,
-    frames_are_read_back, kinds_read_what_they_write, later_payloads_count_more, one_framing, one_list_of_records, one_record,
-    one_varint, shapes_are_trees_in_pieces, shortest_varint, ticks_are_read_back,
-    trees_where_none_is_bad, unknown_parts_are_changed_alone, varint_by_places,
-    what_is_put_is_held, what_stands_behind,
+    frames_are_read_back, kinds_read_what_they_write, later_payloads_count_more, one_framing,
+    one_list_of_records, one_record, one_varint, shapes_are_trees_in_pieces, shortest_varint,
+    ticks_are_read_back, trees_where_none_is_bad, unknown_parts_are_changed_alone,
+    varint_by_places, what_is_put_is_held, what_stands_behind,
 };
 pub use lists::{ByteList, FieldList, Name};
 pub use no_memory::NoMemory;
