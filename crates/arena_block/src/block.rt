@@ -2,7 +2,7 @@
 ghost use Rattle.std.specs.Prelude.{◌≡◌, ◌+◌, ◌-◌, ◌^◌, ◌≤◌, ◌++◌, length, replicate, IfOk, vec_capacity};
 ghost use Rattle.arena_block.specs.Policy.{round8};
 
-use crate::filled::{fill, overwrite, part, rounded};
+use crate::filled::{copy_part, fill, overwrite, part, rounded};
 use no_memory::NoMemory;
 use std::alloc::Global;
 use std::marker::Model;
@@ -86,5 +86,14 @@ impl Block {
         ensures { self.new ≡ with_bytes self.old offset bytes.now }
     {
         overwrite(&mut self.bytes, offset as usize, bytes);
+    }
+
+    /// Copies `len` bytes from one offset to another. It takes no memory.
+    pub fn copy(&mut self, from: u32, to: u32, len: u32)
+        requires from { IsPart self.old from len }
+        requires to { IsPart self.old to len }
+        ensures { self.new ≡ with_bytes self.old to (part_of self.old from len) }
+    {
+        copy_part(&mut self.bytes, from as usize, to as usize, len as usize);
     }
 }

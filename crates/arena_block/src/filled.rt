@@ -49,3 +49,12 @@ pub(crate) fn overwrite(row: &mut [u8], offset: usize, bytes: &[u8])
 {
     row[offset..offset + bytes.len()].copy_from_slice(bytes);
 }
+
+// Copies `len` bytes of the row from one offset to another.
+pub(crate) fn copy_part(row: &mut [u8], from: usize, to: usize, len: usize)
+    requires from { from + len ≤ length row.old }
+    requires to { to + len ≤ length row.old }
+    ensures { row.new ≡ take to row.old ++ take len (drop from row.old) ++ drop (to + len) row.old }
+{
+    row.copy_within(from..from + len, to);
+}

@@ -1,1 +1,4 @@
 pub mod NamedFiles
+pub mod Entries
+pub mod Maps
+pub mod Growth

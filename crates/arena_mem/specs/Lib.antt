@@ -1,4 +1,5 @@
 pub mod Places
+pub mod Grows
 pub mod Outside
 pub mod FileNames
 pub mod Calls

@@ -1,5 +1,5 @@
 -- A memory as two finite maps, from live places and from live buffers to their bytes.
-use Rattle.std.specs.Prelude.{◌≡◌, ◌≢◌, ◌⊎◌, ◌+◌, ◌-◌, ◌*◌, ◌/◌, ◌^◌, ◌≤◌, ℕ, List, ◌++◌, length, take, drop, Option, None, Some, IsSome, sum_by}
+use Rattle.std.specs.Prelude.{◌≡◌, ◌≢◌, ◌⊎◌, ◌+◌, ◌-◌, ◌*◌, ◌/◌, ◌^◌, ◌≤◌, ℕ, List, ◌++◌, length, take, drop, Option, None, Some, IsSome, sum_by, [], unwrap_or}
 use Rattle.std.specs.Option.{option_map}
 use Rattle.std.specs.Ordering.{nat_cmp, ordering_then}
 use Rattle.std.specs.declared.cmp.Ordering.{Ordering}
@@ -66,8 +66,16 @@ abbrev pub AddsAtMostABlock : (ℕ → ℕ) → (ℕ → ℕ) → Type 0
 AddsAtMostABlock old new = (region : ℕ) × ((new region ≡ old region) ⊎ (new region ≡ old region + 1)) × ((other : ℕ) → other ≢ region → new other ≡ old other)
 
 -- the lengths of the live places together
-abbrev pub used : Places → ℕ
+unfoldable pub used : Places → ℕ
 used places = sum_by (λ (p : Place). p.len) (map.keys places)
+
+-- the bytes at a place, and none where it isn't live
+abbrev pub bytes_at : Places → Place → List ℕ
+bytes_at places p = unwrap_or (map.get places p) []
+
+-- the map after the first n bytes of one place were copied to the front of another
+abbrev pub front_copied : Places → Place → Place → ℕ → Places
+front_copied places from to n = written places to 0 (take n (bytes_at places from))
 
 -- no number of bytes stands in both: two regions, two blocks, or one behind the other
 abbrev pub Apart : Place → Place → Type 0

@@ -9,6 +9,7 @@
 
 mod calls;
 mod file_names;
+mod laws;
 mod memory;
 mod memory_files;
 mod memory_sink;
@@ -19,6 +20,7 @@ mod place;
 mod reading;
 
 pub use file_names::FileNames;
+pub use laws::{growths_join, nothing_grows};
 pub use memory::{MemFault, Memory};
 pub use memory_files::MemoryFiles;
 pub use memory_sink::MemorySink;
@@ -30,3 +32,5 @@ pub use place::{Buffer, Place};
 
 #[cfg(test)]
 mod tests;
+#[cfg(test)]
+mod through;

@@ -1,8 +1,9 @@
 // Memory as a finite map.
-ghost use Rattle.std.specs.Prelude.{◌≡◌, ◌+◌, ◌-◌, ◌^◌, ◌≤◌, ℕ, List, None, Some, length, replicate, IfOk, IfErr, OnErr};
+ghost use Rattle.std.specs.Prelude.{◌≡◌, ◌+◌, ◌-◌, ◌^◌, ◌≤◌, ℕ, List, None, Some, length, take, replicate, IfOk, IfErr, OnErr};
 ghost use Rattle.std.specs.Option.{option_map};
 ghost use Rattle.std.specs.FinMap as map;
-ghost use Rattle.arena_mem.specs.Places.{Places, Buffers, round8, IsPlaceable, IsLive, IsKept, KeepsRest, KeepsBuffers, splice, written, AddsAtMostABlock, NamesFullRegion};
+ghost use Rattle.arena_mem.specs.Places.{Places, Buffers, round8, IsPlaceable, IsLive, IsKept, KeepsRest, KeepsBuffers, splice, written, bytes_at, front_copied, used, AddsAtMostABlock, NamesFullRegion};
+ghost use Rattle.arena_mem.specs.Grows.{Grows};
 
 use crate::place::{Buffer, Place};
 use no_memory::NoMemory;
@@ -48,10 +49,15 @@ pub trait Memory {
         ensures zeros { IfOk result (λ p. map.get (places self.new) p ≡ Some (replicate p.len 0)) }
         ensures map { IfOk result (λ p. places self.new ≡ map.insert (places self.old) p (replicate p.len 0)) }
 
+        // One place more is live, and its length more is used.
+        ensures count { IfOk result (λ p. map.len (places self.new) ≡ map.len (places self.old) + 1) }
+        ensures space { IfOk result (λ p. used (places self.new) ≡ used (places self.old) + p.len) }
+
         // All else stays, and after a refusal everything does.
         ensures rest { KeepsRest (places self.old) (places self.new) }
         ensures buffers { buffers self.new ≡ buffers self.old }
         ensures unchanged { OnErr result (places self.new ≡ places self.old) }
+        ensures grows { Grows key places buffers blocks 1 0 self.old self.new }
 
         // One more block at the most. `BlocksSpent` names a region that has all that a number can name.
         ensures blocks { AddsAtMostABlock (blocks self.old) (blocks self.new) }
@@ -72,6 +78,23 @@ pub trait Memory {
         ensures here { map.get (places self.new) place ≡ option_map (splice start bytes.now) (map.get (places self.old) place) }
         ensures others { (q : Place) → (q ≡ place → ⊥) → map.get (places self.new) q ≡ map.get (places self.old) q }
         ensures map { places self.new ≡ written (places self.old) place start bytes.now }
+        ensures count { map.len (places self.new) ≡ map.len (places self.old) }
+        ensures space { used (places self.new) ≡ used (places self.old) }
+        ensures buffers { buffers self.new ≡ buffers self.old }
+        ensures blocks { (region : ℕ) → blocks self.new region ≡ blocks self.old region };
+
+    /// Copies the first `bytes` bytes of one place to the front of another, or of the same one. It takes no memory.
+    fn copy_front(&mut self, from: Place, to: Place, bytes: u32)
+        requires from_live { IsLive (places self.old) from }
+        requires to_live { IsLive (places self.old) to }
+        requires from_fits { bytes ≤ from.len }
+        requires to_fits { bytes ≤ to.len }
+        ensures key { key self.new ≡ key self.old }
+        ensures here { map.get (places self.new) to ≡ option_map (splice 0 (take bytes (bytes_at (places self.old) from))) (map.get (places self.old) to) }
+        ensures others { (q : Place) → (q ≡ to → ⊥) → map.get (places self.new) q ≡ map.get (places self.old) q }
+        ensures map { places self.new ≡ front_copied (places self.old) from to bytes }
+        ensures count { map.len (places self.new) ≡ map.len (places self.old) }
+        ensures space { used (places self.new) ≡ used (places self.old) }
         ensures buffers { buffers self.new ≡ buffers self.old }
         ensures blocks { (region : ℕ) → blocks self.new region ≡ blocks self.old region };
 
@@ -81,11 +104,26 @@ pub trait Memory {
         ensures fresh { IfOk result (λ b. map.get (buffers self.old) b ≡ None) }
         ensures value { IfOk result (λ b. map.get (buffers self.new) b ≡ Some bytes.items) }
         ensures map { IfOk result (λ b. buffers self.new ≡ map.insert (buffers self.old) b bytes.items) }
+        ensures count { IfOk result (λ b. map.len (buffers self.new) ≡ map.len (buffers self.old) + 1) }
         ensures rest { KeepsBuffers (buffers self.old) (buffers self.new) }
         ensures places { places self.new ≡ places self.old }
         ensures blocks { (region : ℕ) → blocks self.new region ≡ blocks self.old region }
         ensures unchanged { OnErr result (buffers self.new ≡ buffers self.old) }
+        ensures grows { Grows key places buffers blocks 0 1 self.old self.new }
         ensures handed_back { IfErr result (λ e. e.1 ≡ bytes) };
+
+    /// Keeps a copy of a byte string under a new name. After a refusal nothing is changed.
+    fn keep_copy(&mut self, bytes: &[u8]) -> Result<Buffer, NoMemory>
+        ensures key { key self.new ≡ key self.old }
+        ensures fresh { IfOk result (λ b. map.get (buffers self.old) b ≡ None) }
+        ensures value { IfOk result (λ b. map.get (buffers self.new) b ≡ Some bytes.now) }
+        ensures map { IfOk result (λ b. buffers self.new ≡ map.insert (buffers self.old) b bytes.now) }
+        ensures count { IfOk result (λ b. map.len (buffers self.new) ≡ map.len (buffers self.old) + 1) }
+        ensures rest { KeepsBuffers (buffers self.old) (buffers self.new) }
+        ensures places { places self.new ≡ places self.old }
+        ensures blocks { (region : ℕ) → blocks self.new region ≡ blocks self.old region }
+        ensures unchanged { OnErr result (buffers self.new ≡ buffers self.old) }
+        ensures grows { Grows key places buffers blocks 0 1 self.old self.new };
 
     /// Lends the bytes of a buffer. It takes no memory.
     fn kept(&self, buffer: Buffer) -> &[u8]

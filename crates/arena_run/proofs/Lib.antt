@@ -10,7 +10,6 @@ pub mod PayloadRecords
 pub mod Messages
 pub mod AllStand
 pub mod Rows
-pub mod Groups
 pub mod Texts
 pub mod Frames
 pub mod Reading
@@ -19,4 +18,3 @@ pub mod Taken
 pub mod Gathered
 pub mod Counted
 pub mod Unused
-pub mod Window

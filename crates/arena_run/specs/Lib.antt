@@ -5,5 +5,4 @@ pub mod Payload
 pub mod Stands
 pub mod Placed
 pub mod Written
-pub mod Reading
 pub mod Ends

@@ -11,13 +11,10 @@ ghost use Rattle.arena_run.specs.Written.{frame_of, output_of, TookPart, KeepsTa
 
 use crate::tick::{self, VALUE_TAG};
 use arena_mem::{Failed, Memory, Place, Sink};
-use pb_wire::varint_len;
+use pb_wire::{put_varint, varint_len};
 
 /// How many bytes are gathered before they are handed to the sink.
 const GATHERED_BYTES: usize = 32768;
-
-/// How many groups of seven bits the longest varint has.
-const MOST_GROUPS: usize = 10;
 
 /// The longest frame of a message without unknown bytes: a prefix, a tag and a value of ten bytes.
 const LONGEST_FRAME: usize = 12;
@@ -205,37 +202,4 @@ fn put_frame(buffer: &mut [u8], filled: usize, value: u64) -> usize
     let end = put_varint(buffer, filled + 2, value);
     buffer[filled] = (end - filled - 1) as u8;
     end
-}
-
-// Puts the shortest varint of a value behind `start` bytes. Answers where it ends. All ten groups are put, and the next
-// bytes overwrite those that are too many: how many there are can't be foreseen, and a branch on each costs more.
-#[inline]
-fn put_varint(buffer: &mut [u8], start: usize, value: u64) -> usize
-    requires { start + 10 ≤ length buffer.old }
-    ensures spelled { take result buffer.new ≡ take start buffer.old ++ varint_of value }
-    ensures bound { (start < result) × (result ≤ start + 10) }
-{
-    if value < 128 {
-        buffer[start] = value as u8;
-        return start + 1;
-    }
-    let mut rest = value;
-    for group in 0..MOST_GROUPS {
-        buffer[start + group] = (rest % 128) as u8 + 128;
-        rest /= 128;
-    }
-    let last = last_group(value);
-    buffer[start + last] = (value >> (7 * last)) as u8;
-    start + last + 1
-}
-
-// How many whole groups of seven bits lie below the highest bit that is set.
-#[inline]
-fn last_group(value: u64) -> usize
-    requires { 0 < value }
-    ensures below { 2 ^ (7 * result) ≤ value }
-    ensures above { value < 2 ^ (7 * (result + 1)) }
-    ensures bound { result ≤ 9 }
-{
-    (63 - value.leading_zeros() as usize) / 7
 }

@@ -1,15 +1,20 @@
 -- Reading frames at a place of the bytes, one after another.
-use Rattle.std.proofs.Common.{◌≡◌, ◌+◌, ◌-◌, ◌^◌, ◌<◌, ◌≤◌, ℕ, suc, List, [], ◌∷◌, ◌++◌, length, take, drop, Option, None, Some, Result, Ok, Err, refl, sym, ap, ◌∙◌, subst, ⊎_elim, ltb, leb, length-append, length-drop, drop-drop, append-nil, arith}
+use Rattle.std.proofs.Common.{◌≡◌, ◌+◌, ◌-◌, ◌^◌, ◌<◌, ◌≤◌, ℕ, suc, List, [], ◌∷◌, ◌++◌, length, get_or, take, drop, Option, None, Some, Result, Ok, Err, refl, sym, ap, ◌∙◌, subst, ⊎_elim, ltb, leb, length-append, length-drop, drop-drop, append-nil, arith}
 use Rattle.std.specs.Prelude.{IsSome}
-use Rattle.std.proofs.lemmas.Bool.{lt-ltb, le-ltb, le-leb, lt-leb, cond-true, cond-false}
+use Rattle.std.proofs.Math.ListN.{get_or-append}
+use Rattle.std.proofs.Math.Seq.{get_or-append_seam, drop-append_seam}
+use Rattle.std.proofs.lemmas.List.{drop_more, drop-map, drop-append-le, map-append}
+use Rattle.std.proofs.lemmas.Bool.{cases_lt, lt-ltb, le-ltb, le-leb, lt-leb, cond-true, cond-false}
 use Rattle.std.proofs.lemmas.Option.{none-some, same_Some}
 use Rattle.pb_schema.specs.Varint.{varint_at, length_bytes}
 use Rattle.pb_schema.specs.Frames.{frame_at, behind, frames_of}
-use Rattle.pb_schema.proofs.Steps.{frame_at_whole, frames_more, frames_cut, frames_end}
+use Rattle.pb_schema.proofs.FormLaws.{same_ok, not_ok}
+use Rattle.pb_schema.proofs.VarintLaws.{same_cons}
+use Rattle.pb_schema.proofs.Steps.{frame_at_whole, frame_at_within, frames_more, frames_cut, frames_end}
 use Rattle.pb_schema.proofs.FrameLaws.{cases_option}
 use Rattle.pb_wire.specs.declared.frame_fault.FrameFault.TheVariants.{FrameCut, TooManyFrames}
 use Rattle.pb_wire.specs.Placed.{found_from}
-use Rattle.pb_wire.specs.FramePlaces.{frame_from, Begins}
+use Rattle.pb_wire.specs.FramePlaces.{frame_from, Begins, AllFollow, payload_at, payload_of, payloads_at}
 use Rattle.pb_wire.specs.FrameAnswers.{answer_from, answer_of, most_frames}
 
 -- what was found, counted from where it stands
@@ -128,3 +133,56 @@ pub read_all : (bytes : List ℕ) (at : ℕ) (payloads : List (List ℕ)) → Re
 read_all bytes at payloads so_far past few =
     ap answer_from (sym so_far ∙ (ap (after payloads) (frames_end bytes at past) ∙ (after_ok payloads [] ∙ ap Ok (append-nil payloads))))
     ∙ cond-true (leb (length payloads) most_frames) _ _ (le-leb (length payloads) (2 ^ 20) few)
+
+-- WHAT FOLLOWS EACH FRAME
+
+-- so far: what is cut from the start of each frame on are those that start there or behind it, and then what is cut from the place on
+abbrev pub FollowTo : List ℕ → ℕ → List ℕ → Type 0
+FollowTo bytes at starts = (index : ℕ) → index < length starts → after (payloads_at bytes (drop index starts)) (frames_of (drop at bytes)) ≡ frames_of (drop (get_or starts index 0) bytes)
+
+pub follow_none : (bytes starts : List ℕ) → starts ≡ [] → FollowTo bytes 0 starts
+follow_none bytes starts none = λ index h. absurd (omega (arith, h, ap length none))
+
+pub follow_more : (bytes : List ℕ) (at n : ℕ) (starts payload : List ℕ) → FollowTo bytes at starts → at < length bytes → frame_at (drop at bytes) ≡ Some (payload, n) → FollowTo bytes (at + n) (starts ++ at ∷ [])
+unfolding after
+follow_more bytes at n starts payload so_far more e = λ index h. ⊎_elim (earlier index) (newest index h) (cases_lt index (length starts))
+  where
+    last : payload_at bytes at ≡ payload
+    last = ap payload_of e
+
+    earlier : (index : ℕ) → index < length starts → after (payloads_at bytes (drop index (starts ++ at ∷ []))) (frames_of (drop (at + n) bytes)) ≡ frames_of (drop (get_or (starts ++ at ∷ []) index 0) bytes)
+    earlier index h =
+        let before = payloads_at bytes (drop index starts) in
+        ap (λ xs. after (payloads_at bytes xs) (frames_of (drop (at + n) bytes))) (drop-append-le index starts (at ∷ []) (omega (arith, h)))
+        ∙ ap (λ ps. after ps (frames_of (drop (at + n) bytes))) (map-append (payload_at bytes) (drop index starts) (at ∷ []) ∙ ap (λ p. before ++ p ∷ []) last)
+        ∙ after_push before payload (frames_of (drop (at + n) bytes)) ∙ ap (after before) (sym (frames_more bytes at payload n more e)) ∙ so_far index h
+        ∙ ap (λ k. frames_of (drop k bytes)) (sym (get_or-append starts (at ∷ []) 0 index h))
+
+    newest : (index : ℕ) → index < length (starts ++ at ∷ []) → length starts ≤ index → after (payloads_at bytes (drop index (starts ++ at ∷ []))) (frames_of (drop (at + n) bytes)) ≡ frames_of (drop (get_or (starts ++ at ∷ []) index 0) bytes)
+    newest index h past =
+        let is : index ≡ length starts = omega (arith, h, past, length-append starts (at ∷ [])) in
+        ap (λ k. after (payloads_at bytes (drop k (starts ++ at ∷ []))) (frames_of (drop (at + n) bytes))) is
+        ∙ ap (λ xs. after (payloads_at bytes xs) (frames_of (drop (at + n) bytes))) (drop-append_seam starts (at ∷ []))
+        ∙ ap (λ p. behind p (frames_of (drop (at + n) bytes))) last ∙ sym (frames_more bytes at payload n more e)
+        ∙ ap (λ k. frames_of (drop k bytes)) (sym (ap (λ k. get_or (starts ++ at ∷ []) k 0) is ∙ get_or-append_seam starts at [] 0))
+
+pub follow_all : (bytes : List ℕ) (at : ℕ) (starts : List ℕ) → FollowTo bytes at starts → length bytes ≤ at → AllFollow bytes starts
+follow_all bytes at starts so_far past = λ index h.
+    let ps = payloads_at bytes (drop index starts) in
+    sym (so_far index h) ∙ ap (after ps) (frames_end bytes at past) ∙ after_ok ps [] ∙ ap Ok (append-nil ps)
+
+-- the frames behind the first of some frames
+rest_of_behind : (p q : List ℕ) (r : Result (List (List ℕ)) ℕ) (ps : List (List ℕ)) → behind p r ≡ Ok (q ∷ ps) → r ≡ Ok ps
+rest_of_behind p q (Ok others) ps e = ap Ok (same_cons p q others ps (same_ok (p ∷ others) (q ∷ ps) e)).1
+rest_of_behind p q (Err cut) ps e = not_ok (suc cut) (q ∷ ps) e
+
+pub follow_frame : (bytes starts : List ℕ) (index end : ℕ) (payload : List ℕ) → AllFollow bytes starts → index < length starts
+    → Some (payload, end) ≡ frame_from (get_or starts index 0) (frame_at (drop (get_or starts index 0) bytes)) → frames_of (drop end bytes) ≡ Ok (drop (index + 1) (payloads_at bytes starts))
+follow_frame bytes starts index end payload follow inside e =
+    let start = get_or starts index 0 in
+    let there = frame_found (frame_at (drop start bytes)) start payload end e in
+    let size = frame_at_within (drop start bytes) payload there.bytes there.is in
+    let whole =
+    sym (frames_more bytes start payload there.bytes (omega (arith, size, length-drop start bytes)) there.is) ∙ follow index inside ∙ ap (λ xs. Ok (payloads_at bytes xs)) (drop_more starts index 0 inside) in
+    ap (λ k. frames_of (drop k bytes)) there.end_is ∙ rest_of_behind payload (payload_at bytes start) (frames_of (drop (start + there.bytes) bytes)) (payloads_at bytes (drop (index + 1) starts)) whole
+    ∙ ap Ok (sym (drop-map (payload_at bytes) (index + 1) starts))

@@ -12,7 +12,7 @@ use Rattle.pb_schema.proofs.FormLaws.{read_varint_some, read_varint_none}
 use Rattle.pb_wire.specs.Placed.{found_from, moved}
 
 -- what was found, counted from the start of all bytes
-moved_found : (start most : ℕ) (s : List ℕ) (v n end : ℕ) → varint_at most s ≡ Some (v, n) → end ≡ start + n → Some (v, end) ≡ found_from start (varint_at most s)
+pub moved_found : (start most : ℕ) (s : List ℕ) (v n end : ℕ) → varint_at most s ≡ Some (v, n) → end ≡ start + n → Some (v, end) ≡ found_from start (varint_at most s)
 moved_found start most s v n end e is_end = ap (λ k. Some (v, k)) is_end ∙ sym (ap (found_from start) e)
 
 -- the same as a result

@@ -5,6 +5,7 @@
 //! kind and its byte; each writer gives the shortest spelling.
 #![tactic(auto)]
 
+mod find;
 mod frame_fault;
 mod frame_place;
 mod frames;
@@ -12,14 +13,17 @@ mod record;
 mod tag;
 mod varint;
 mod wire_record;
+mod write;
 
+pub use find::{find_length, find_value};
 pub use frame_fault::FrameFault;
 pub use frames::{Frames, read_frames};
 pub use pb_schema::{WireFault, WireKind};
 pub use record::read_record;
 pub use tag::{read_tag, write_tag};
-pub use varint::{read_varint, varint_len, write_varint};
+pub use varint::read_varint;
 pub use wire_record::WireRecord;
+pub use write::{put_varint, varint_len, write_varint};
 
 #[cfg(test)]
 mod tests;

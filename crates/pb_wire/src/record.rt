@@ -3,18 +3,14 @@ ghost use Rattle.std.specs.Prelude.{◌≡◌, ◌+◌, ◌-◌, ◌^◌, ◌<�
 ghost use Rattle.pb_schema.specs.Reads.{read_map};
 ghost use Rattle.pb_schema.specs.Form.{read_bytes, read_length as length_read, read_payload as payload_read, form_at};
 ghost use Rattle.pb_schema.specs.Fits.{no_types};
-ghost use Rattle.pb_schema.specs.Walk.{in_group, walk_left, record_left};
-ghost use Rattle.pb_schema.specs.Fault.{most_levels};
+ghost use Rattle.pb_schema.specs.Walk.{in_group, walk_left};
 ghost use Rattle.pb_wire.specs.Placed.{moved, moved_part};
-ghost use Rattle.pb_wire.specs.PlacedRecord.{placed};
+ghost use Rattle.pb_wire.specs.PlacedRecord.{placed, record_in, LiesFrom, FillsFrom};
 
-use crate::tag::{LENGTH_BYTES, read_tag};
+use crate::tag::{LENGTH_BYTES, LENGTH_END, read_tag};
 use crate::varint::{VALUE_BYTES, find_varint, varint_fault};
 use crate::wire_record::WireRecord;
 use pb_schema::{WireFault, WireKind};
-
-/// Lengths are below this.
-const LENGTH_END: u64 = 1 << 31;
 
 /// A message or a group is at most so many levels below the root.
 const MOST_LEVELS: u32 = 100;
@@ -101,7 +97,7 @@ fn read_form(bytes: &[u8], start: u32) -> Result<WireRecord, WireFault>
     requires start { start ≤ length bytes.now }
     requires short { length bytes.now < 2 ^ 31 }
     ensures exact { result ≡ read_map (placed start) (form_at start (drop start bytes.now)) }
-    ensures bound { IfOk result (λ r. (start < r.payload) × (r.payload ≤ r.end) × (r.end ≤ length bytes.now) × (r.payload + r.payload_len ≡ r.end)) }
+    ensures bound { IfOk result (FillsFrom start (length bytes.now)) }
 {
     let (number, wire, at) = read_tag(bytes, start)?;
     let (payload, payload_len) = read_payload(bytes, at, wire)?;
@@ -115,8 +111,8 @@ fn read_form(bytes: &[u8], start: u32) -> Result<WireRecord, WireFault>
     })
 }
 
-// Where the records of the group of this number, which begin at `start`, stop, and the place behind its end tag. So many
-// levels are left below them, which is as often as this calls itself.
+// Where the records of the group of this number, which begin at `start`, stop, and the place behind its end tag. So
+// many levels are left below them, which is as often as this calls itself.
 fn read_group(bytes: &[u8], start: u32, number: u32, left: u32) -> Result<(u32, u32), WireFault>
     requires start { start ≤ length bytes.now }
     requires short { length bytes.now < 2 ^ 31 }
@@ -154,15 +150,23 @@ fn read_group(bytes: &[u8], start: u32, number: u32, left: u32) -> Result<(u32, 
     })
 }
 
-/// The record at `start`, with what stands in it where it is a group; or its first fault. The record stands in a message
-/// or a group at this depth, and a group stands one deeper than that. A million groups, each in the one before, are
-/// refused as too deep, and a group's bytes are read once.
+/// The record at `start`, with what stands in it where it is a group; or its first fault (encoding guide, "Message
+/// Structure", "Length-Delimited Records" and "Groups"). The record stands in a message or a group at this depth, and a
+/// group stands one deeper than that. A million groups, each in the one before, are refused as too deep, and a group's
+/// bytes are read once.
+///
+/// Faults, where they come first in the record or in a group's records:
+/// - those of [`read_tag`] at a tag's first byte, and those of [`read_varint`](crate::read_varint) at a value's;
+/// - `Cut` or `LongVarint` at a length's first byte, as of a tag, and `BadLength` where it is 2^31 or more;
+/// - `Cut` at the first byte of a payload or a fixed value that isn't all there, and at the end of the bytes
+///   where a group isn't closed;
+/// - `GroupEnd` at an end tag outside a group or with another number, and `TooDeep` at the tag of a group at depth 101.
 pub fn read_record(bytes: &[u8], start: u32, depth: u32) -> Result<WireRecord, WireFault>
     requires start { start < length bytes.now }
     requires short { length bytes.now < 2 ^ 31 }
     requires depth { depth ≤ 100 }
-    ensures exact { result ≡ read_map (placed start) (record_left no_types (most_levels - depth) [] start (drop start bytes.now)) }
-    ensures bound { IfOk result (λ r. (r.start ≡ start) × (start < r.end) × (r.end ≤ length bytes.now) × (r.payload + r.payload_len ≤ r.end)) }
+    ensures exact { result ≡ record_in depth start bytes.now }
+    ensures bound { IfOk result (LiesFrom start (length bytes.now)) }
 {
     let form = read_form(bytes, start)?;
     if form.wire == GROUP_END {

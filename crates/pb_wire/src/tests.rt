@@ -57,14 +57,59 @@ fn varints_and_tags(rt: HostRuntime) -> Result<(), Fail> {
     Ok(())
 }
 
+// What is found in the first `end` bytes doesn't hang on what follows.
+#[test]
+fn found_values_and_lengths(rt: HostRuntime) -> Result<(), Fail> {
+    let rows: [(&[u8], usize, Option<(u64, usize)>, Option<(usize, usize)>); 9] = [
+        (b"\x96\x01", 2, Some((150, 2)), Some((150, 2))),
+        (
+            b"\x96\x01\xff\xff\xff\xff\xff\xff",
+            2,
+            Some((150, 2)),
+            Some((150, 2)),
+        ),
+        (b"\x96\x01\xff\xff\xff\xff\xff\xff", 1, None, None),
+        (b"\x05\x01\xff\xff\xff\xff\xff\xff", 0, None, None),
+        (
+            b"\xff\xff\xff\xff\x07\x00\x00\x00",
+            5,
+            Some((2147483647, 5)),
+            Some((2147483647, 5)),
+        ),
+        (
+            b"\x80\x80\x80\x80\x08\x00\x00\x00",
+            5,
+            Some((2147483648, 5)),
+            None,
+        ),
+        (b"\x82\x80\x80\x80\x80\x00\x00\x00", 8, Some((2, 6)), None),
+        (
+            b"\xff\xff\xff\xff\xff\xff\xff\xff\xff\x7f",
+            10,
+            Some((u64::MAX, 10)),
+            None,
+        ),
+        (b"\xff\xff\xff\xff\xff\xff\xff\xff\xff\xff", 10, None, None),
+    ];
+    for (bytes, end, value, length) in rows {
+        if end <= bytes.len() {
+            assert_eq!(rt; find_value(bytes, 0, end), value, "{bytes:?}");
+            assert_eq!(rt; find_length(bytes, 0, end), length, "{bytes:?}");
+        }
+    }
+    Ok(())
+}
+
 #[test]
 fn shortest_spellings(rt: HostRuntime) -> Result<(), Fail> {
-    let rows: [(u64, &[u8]); 7] = [
+    let rows: [(u64, &[u8]); 9] = [
         (0, b"\x00"),
         (127, b"\x7f"),
         (128, b"\x80\x01"),
         (150, b"\x96\x01"),
         (16384, b"\x80\x80\x01"),
+        ((1 << 56) - 1, b"\xff\xff\xff\xff\xff\xff\xff\x7f"),
+        (1 << 56, b"\x80\x80\x80\x80\x80\x80\x80\x80\x01"),
         (1 << 63, b"\x80\x80\x80\x80\x80\x80\x80\x80\x80\x01"),
         (u64::MAX, b"\xff\xff\xff\xff\xff\xff\xff\xff\xff\x01"),
     ];
@@ -73,6 +118,10 @@ fn shortest_spellings(rt: HostRuntime) -> Result<(), Fail> {
         let count = write_varint(value, &mut room);
         assert_eq!(rt; &room[..count], bytes, "{value}");
         assert_eq!(rt; varint_len(value) as usize, count, "{value}");
+        let mut room = [0xaa; 12];
+        assert_eq!(rt; put_varint(&mut room, 1, value), count + 1, "{value}");
+        assert_eq!(rt; room[0], 0xaa, "{value}");
+        assert_eq!(rt; &room[1..count + 1], bytes, "{value}");
     }
     let mut room = [0; 10];
     let count = write_tag(536870911, 5, &mut room);

@@ -1,6 +1,6 @@
-// Varints: a number in groups of seven bits, the least group first.
+// Reading varints: a number in groups of seven bits, the least group first.
 ghost use Rattle.std.specs.Prelude.{◌≡◌, ◌+◌, ◌*◌, ◌^◌, ◌<◌, ◌≤◌, ℕ, length, take, drop, IfOk, IfSome};
-ghost use Rattle.pb_schema.specs.Varint.{value_bytes, varint_at, varint_of};
+ghost use Rattle.pb_schema.specs.Varint.{value_bytes, varint_at};
 ghost use Rattle.pb_schema.specs.Form.{read_varint as varint_read};
 ghost use Rattle.pb_wire.specs.Placed.{moved, found_from};
 
@@ -9,7 +9,11 @@ use pb_schema::{WireFault, WireKind};
 /// The most bytes of a value.
 pub(crate) const VALUE_BYTES: usize = 10;
 
-/// The value of 64 bits at `start`, and the place behind it.
+/// The value at `start`, and the place behind it (encoding guide, "Base 128 Varints"). It has at most ten bytes, of
+/// which bits past the 64th don't count.
+///
+/// The fault stands at `start`: `Cut` where fewer than ten bytes are there and all go on, `LongVarint` where the tenth
+/// goes on.
 pub fn read_varint(bytes: &[u8], start: u32) -> Result<(u64, u32), WireFault>
     requires start { start ≤ length bytes.now }
     requires short { length bytes.now < 2 ^ 31 }
@@ -22,8 +26,9 @@ pub fn read_varint(bytes: &[u8], start: u32) -> Result<(u64, u32), WireFault>
     }
 }
 
-// What is wrong at `start`, where no varint of at most `most` bytes ends. It is asked for only where `find_varint` found
-// none: a `Result` of a value of 64 bits or a fault goes through memory, and that takes longer than a short varint.
+// What is wrong at `start`, where no varint of at most `most` bytes ends. It is asked for only where `find_varint`
+// found none: a `Result` of a value of 64 bits or a fault goes through memory, and that takes longer than a short
+// varint.
 pub(crate) fn varint_fault(bytes: &[u8], start: u32, most: usize) -> WireFault
     requires start { start ≤ length bytes.now }
     requires none { None ≡ found_from start (varint_at most (drop start bytes.now)) }
@@ -76,48 +81,4 @@ fn find_long(bytes: &[u8], start: usize, most: usize) -> Option<(u64, usize)>
         }
     }
     None
-}
-
-/// How many bytes the shortest varint of a value has.
-pub fn varint_len(value: u64) -> u32
-    ensures { result ≡ length (varint_of value) }
-{
-    if value < 128 {
-        return 1;
-    }
-    last_group(value) as u32 + 1
-}
-
-/// Writes the shortest varint of a value to the front of the room, and answers how many bytes it has. The room behind
-/// is left as it was.
-#[inline]
-pub fn write_varint(value: u64, room: &mut [u8; 10]) -> usize
-    ensures spelled { take result room.new ≡ varint_of value }
-    ensures count { result ≡ length (varint_of value) }
-    ensures rest { drop result room.new ≡ drop result room.old }
-    ensures bound { (0 < result) × (result ≤ 10) }
-{
-    if value < 128 {
-        room[0] = value as u8;
-        return 1;
-    }
-    let last = last_group(value);
-    let mut rest = value;
-    for group in 0..last {
-        room[group] = (rest % 128) as u8 + 128;
-        rest /= 128;
-    }
-    room[last] = rest as u8;
-    last + 1
-}
-
-// How many whole groups of seven bits lie below the highest bit that is set.
-#[inline]
-fn last_group(value: u64) -> usize
-    requires { 0 < value }
-    ensures below { 2 ^ (7 * result) ≤ value }
-    ensures above { value < 2 ^ (7 * (result + 1)) }
-    ensures bound { result ≤ 9 }
-{
-    (63 - value.leading_zeros() as usize) / 7
 }

@@ -1,5 +1,4 @@
 mod Placing
-mod Entries
 pub mod Names
 mod Parts
 mod States

@@ -1,40 +1,26 @@
 -- The live places and buffers of a serial arena.
-use Rattle.std.proofs.Common.{◌≡◌, ℕ, zero, suc, ◌+◌, ◌-◌, ◌<◌, ◌≤◌, Bool, true, false, cond, List, [], ◌∷◌, ◌++◌, length, get_or, Option, Some, None, inl, inr, ⊎_elim, refl, sym, ap, subst, ◌∙◌, arith}
+use Rattle.std.proofs.Common.{◌≡◌, ℕ, zero, suc, ◌+◌, ◌-◌, ◌<◌, ◌≤◌, Bool, true, false, cond, List, [], ◌∷◌, ◌++◌, length, get_or, Some, None, inl, inr, ⊎_elim, refl, sym, ap, subst, ◌∙◌, arith}
 use Rattle.std.specs.Prelude.{map, replicate, IsSome, ◌==◌, if◌then◌else◌, ◌⊎◌}
 use Rattle.std.specs.Option.{option_map}
-use Rattle.std.specs.Ordering.{nat_cmp, eq_by_cmp}
-use Rattle.std.specs.Cmp.{IsTotalOrder, nat_cmp_total, on_total, then_total}
+use Rattle.std.specs.Ordering.{eq_by_cmp}
 use Rattle.std.specs.FinMap as fin
-use Rattle.std.specs.FinMap.{IsAntisymmetric}
-use Rattle.std.proofs.lemmas.Map.Lookups.{exact_pairs, exact_unsigned}
+use Rattle.std.proofs.lemmas.List.Sums.{sum-map}
+use Rattle.std.proofs.lemmas.Simd.{map-map}
+use Rattle.std.specs.List.{sum}
 use Rattle.std.proofs.lemmas.List.{map-append, length-map, length_push, get_or_append_left, get_or_push}
 use Rattle.std.proofs.Math.ListN.{get_or-map, get_or-eq_default}
-use Rattle.std.proofs.lemmas.Bool.{cases_Bool, cases_lt, false≢true, eqb-true, eqb-false, leb-true, leb-false, true_from_ne_false, false_from_ne_true}
+use Rattle.std.proofs.lemmas.Bool.{cases_Bool, cases_lt, eqb-true, eqb-false, leb-true, leb-false, true_from_ne_false, false_from_ne_true}
 use Rattle.arena_mem.specs.declared.place.Place.{Place}
 use Rattle.arena_mem.specs.declared.place.Buffer.{Buffer}
-use Rattle.arena_mem.specs.Places.{place_cmp, buffer_cmp, Places, IsLive, IsPlaceable, KeepsRest, KeepsBuffers, Apart, round8, splice, written, replaced, AddsAtMostABlock}
+use Rattle.arena_mem.specs.Places.{place_cmp, buffer_cmp, IsLive, IsPlaceable, KeepsRest, KeepsBuffers, Apart, round8, splice, written, replaced, used, AddsAtMostABlock}
 use Rattle.arena_block.specs.Policy.{IsLength}
 use Rattle.serial_arena.specs.declared.span.Span.{Span}
 use Rattle.serial_arena.specs.Laid.{Laid, span_at, size_at, filled_to}
-use Rattle.serial_arena.specs.Serial.{Placement, SerialState, span_of, spans_of, place_in, numbered, places_of, buffers_of, blocks_of, room_of, fits, opened_size, sizes_for, next_placement, with_place, rewritten, with_bytes, with_kept}
+use Rattle.serial_arena.specs.Serial.{Placement, SerialState, span_of, spans_of, place_in, numbered, places_of, buffers_of, blocks_of, room_of, fits, opened_size, sizes_for, next_placement, with_place, rewritten, with_bytes, with_kept, used_of}
 use Rattle.serial_arena.proofs.Placing.{differ, lie_apart, few_blocks, laid_within, laid_beyond}
-use Rattle.serial_arena.proofs.Entries.{same_key, get_inserted, get_beside, stays_there, keeps_rest, IsFresh, AreDistinct, altered, get_fresh, from_entries_fresh, stands, from_entries-altered, len_all}
-
--- ---- the orders
-pub places_total : IsTotalOrder place_cmp
-places_total = then_total (on_total (λ p. p.region) nat_cmp_total) (then_total (on_total (λ p. p.block) nat_cmp_total) (then_total (on_total (λ p. p.offset) nat_cmp_total) (on_total (λ p. p.len) nat_cmp_total)))
-
--- places that compare alike are one
-pub exact_places : IsAntisymmetric place_cmp
-exact_places p q h = ap (λ (x : ℕ × (ℕ × (ℕ × ℕ))). record { region = x.0; block = x.1.0; offset = x.1.1.0; len = x.1.1.1 })
-    (exact_pairs nat_cmp _ exact_unsigned (exact_pairs nat_cmp _ exact_unsigned (exact_pairs nat_cmp nat_cmp exact_unsigned exact_unsigned))
-    (p.region, (p.block, (p.offset, p.len))) (q.region, (q.block, (q.offset, q.len))) h)
-
-buffers_total : IsTotalOrder buffer_cmp
-buffers_total = then_total (on_total (λ b. b.region) nat_cmp_total) (on_total (λ b. b.number) nat_cmp_total)
-
-exact_buffers : IsAntisymmetric buffer_cmp
-exact_buffers a b h = ap (λ (x : ℕ × ℕ). record { region = x.0; number = x.1 }) (exact_pairs nat_cmp nat_cmp exact_unsigned exact_unsigned (a.region, a.number) (b.region, b.number) h)
+use Rattle.arena_mem.proofs.Entries.{same_key, get_inserted, get_beside, stays_there, keeps_rest, IsFresh, AreDistinct, altered, get_fresh, from_entries_fresh, stands, from_entries-altered, len_all}
+use Rattle.arena_mem.proofs.Maps.{exact_places, buffers_total, exact_buffers, from_IsSome, used_all}
+pub use Rattle.arena_mem.proofs.Maps.{places_total}
 
 -- ---- the entries of the places
 abbrev pub nothing : Placement
@@ -68,14 +54,6 @@ changed_here p start bytes v = ap (λ b. cond b (splice start bytes v) v) (same_
 entries_rewritten : (r : ℕ) (p : Place) (start : ℕ) (bytes : List ℕ) (xs : List Placement) → map (entry r) (map (rewritten r p start bytes) xs) ≡ altered (changed p start bytes) (map (entry r) xs)
 entries_rewritten r p start bytes [] = refl
 entries_rewritten r p start bytes (x ∷ xs) = ap (λ es. (place_in r x, changed p start bytes (place_in r x) x.bytes) ∷ es) (entries_rewritten r p start bytes xs)
-
--- an option that is something, by its value
-pub from_IsSome : {X : Type 0} (P : Option X → Type 0) (r : Option X) → IsSome r → ((x : X) → r ≡ Some x → P (Some x)) → P r
-from_IsSome P None h f = absurd (false≢true h)
-from_IsSome P (Some x) h f = f x refl
-
-pub lives : (places : Places) (p : Place) (v : List ℕ) → fin.get places p ≡ Some v → IsLive places p
-lives places p v is = subst IsSome (sym is) refl
 
 pub blocks_here : (s : SerialState) → blocks_of s s.region ≡ length s.sizes
 blocks_here s = ap (λ b. cond b (length s.sizes) 0) (test_same s.region)
@@ -154,6 +132,14 @@ module _ (s : SerialState) (laid : Laid s.policy s.sizes (spans_of s)) where
 
   count_places : fin.len (places_of s) ≡ length s.placements
   count_places = len_all places_total exact_places (entry s.region nothing) (map (entry s.region) s.placements) distinct ∙ length-map s.placements (entry s.region)
+
+  -- what is used is the sum of the lens of the live places
+  pub used_is : used (places_of s) ≡ used_of s
+  used_is =
+      used_all (entry s.region nothing) (map (entry s.region) s.placements) distinct
+      ∙ sym (sum-map (λ (p : Place). p.len) (map (λ (e : Place × List ℕ). e.0) (map (entry s.region) s.placements)))
+      ∙ ap sum (map-map (λ (p : Place). p.len) (λ (e : Place × List ℕ). e.0) (map (entry s.region) s.placements) ∙ map-map (λ (e : Place × List ℕ). e.0.len) (entry s.region) s.placements)
+      ∙ sum-map (λ (x : Placement). x.len) s.placements
 
   pub blocks_have_places : (region : ℕ) → blocks_of s region ≤ fin.len (places_of s)
   blocks_have_places region =

@@ -1,11 +1,11 @@
 -- What the fields of an arena say of the state that contracts see.
-use Rattle.std.proofs.Common.{◌≡◌, ℕ, suc, ◌+◌, ◌-◌, ◌*◌, ◌<◌, ◌≤◌, ◌^◌, Bool, true, false, cond, List, [], ◌∷◌, ◌++◌, length, get_or, Option, Some, None, ⊎_elim, refl, sym, ap, subst, ◌∙◌, arith}
-use Rattle.std.specs.Prelude.{map, sum_by, nat_le}
+use Rattle.std.proofs.Common.{◌≡◌, ℕ, suc, ◌+◌, ◌-◌, ◌*◌, ◌<◌, ◌≤◌, ◌^◌, Bool, true, false, cond, List, [], ◌∷◌, ◌++◌, length, get_or, take, drop, Option, Some, None, ⊎_elim, refl, sym, ap, subst, ◌∙◌, arith}
+use Rattle.std.specs.Prelude.{map, sum_by, nat_le, unwrap_or}
 use Rattle.std.specs.List.{sum}
 use Rattle.std.specs.Ordering.{eq_by_cmp}
 use Rattle.std.specs.FinMap as fin
 use Rattle.std.proofs.Math.ListN.{get_or-map, get_or-eq_default}
-use Rattle.std.proofs.lemmas.List.{same_lists, map-append, length-map, length_push, length-take, length-drop, length-replicate, get_or_append_left, get_or_push}
+use Rattle.std.proofs.lemmas.List.{same_lists, map-append, length-map, length_push, length-take, length-drop, take-take, length-replicate, get_or_append_left, get_or_push}
 use Rattle.std.proofs.lemmas.List as lists
 use Rattle.std.proofs.lemmas.List.Sums.{sum_by-append, sum-map}
 use Rattle.std.proofs.lemmas.Simd.{map-map}
@@ -13,7 +13,7 @@ use Rattle.std.proofs.lemmas.Bool.{cases_Bool, cases_lt, leb-true, leb-false, fa
 use Rattle.arena_mem.specs.declared.place.Place.{Place}
 use Rattle.arena_mem.specs.declared.memory.MemFault.{MemFault}
 use Rattle.arena_mem.specs.declared.memory.MemFault.TheVariants.{NoMemory, BlocksSpent}
-use Rattle.arena_mem.specs.Places.{place_cmp, Places, IsLive, IsPlaceable, NamesFullRegion, round8, splice}
+use Rattle.arena_mem.specs.Places.{place_cmp, Places, IsLive, IsPlaceable, NamesFullRegion, round8, splice, bytes_at}
 use Rattle.arena_block.specs.declared.policy.Policy.{Policy}
 use Rattle.arena_block.specs.Policy.{IsValid, IsLength, next_size}
 use Rattle.arena_block.specs.Block.{BlockState, fresh_block, room_of, part_of}
@@ -23,8 +23,9 @@ use Rattle.serial_arena.specs.Serial as serial
 use Rattle.serial_arena.specs.Serial.{Placement, SerialState, span_of, spans_of, place_in, places_of, used_of, allocated_of, fits, opened_size, sizes_for, next_placement, with_place, rewritten, with_bytes, with_kept, blocks_of, IsSpent, Refuses, IsSerial}
 use Rattle.serial_arena.specs.Layout.{no_block, block_at, newest, sizes_of, placement_in, has_room, opened, blocks_for, size_for, with_filled, with_written, AreSpent, Refused, HoldsAll}
 use Rattle.serial_arena.proofs.Placing.{for_each, last_pushed, before, behind_header}
-use Rattle.serial_arena.proofs.Entries.{one_key, same_key}
-use Rattle.serial_arena.proofs.Names.{places_total, exact_places, nothing, entry, placement_at, from_IsSome, live_at, laid_next, block_there, blocks_here, rounded_length}
+use Rattle.arena_mem.proofs.Entries.{one_key, same_key}
+use Rattle.arena_mem.proofs.Maps.{places_total, exact_places, from_IsSome}
+use Rattle.serial_arena.proofs.Names.{nothing, entry, placement_at, live_at, laid_next, block_there, blocks_here, rounded_length}
 use Rattle.serial_arena.proofs.Parts.{filled_count, filled_newest, filled_length, filled_sizes, filled_part, filled_grows, filled_zero, written_count, written_sizes, written_size, written_length, written_beside, written_before, written_after, written_within}
 
 -- a state made of fields
@@ -397,6 +398,17 @@ module _ (owner life region : ℕ) (policy : Policy) (blocks : List BlockState) 
           allocated_is = ok.allocated_is ∙ ap sum (sym sizes);
           allocated_few = omega (arith, ok.allocated_few, same);
         }
+
+  -- ---- the first bytes of a live place
+  pub front_is : (p : Place) (n : ℕ) → IsLive (places_of s) p → n ≤ p.len → take n (bytes_at (places_of s) p) ≡ part_of (block_at blocks p.block) p.offset n
+  front_is p n live few =
+      let lies = lies_there p live in
+      ap (λ r. take n (unwrap_or r [])) lies.bytes ∙ take-take n p.len (drop p.offset (block_at blocks p.block).bytes) few
+
+  pub front_count : (p : Place) (n : ℕ) → IsLive (places_of s) p → n ≤ p.len → length (take n (bytes_at (places_of s) p)) ≡ n
+  front_count p n live few =
+      let lies = lies_there p live in
+      ap (λ (xs : List ℕ). length xs) (front_is p n live few) ∙ simp (length-take, length-drop) (omega (arith, lies.fits, few))
 
   -- ---- refusals
   spent : (bytes : ℕ) → AreSpent blocks (round8 bytes) → IsSpent s bytes

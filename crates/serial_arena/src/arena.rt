@@ -2,7 +2,8 @@
 ghost use Rattle.std.specs.Prelude.{◌≡◌, [], length, IsSome};
 ghost use Rattle.arena_block.specs.Policy.{IsValid};
 ghost use Rattle.cleanup_list.specs.Told.{block, Gains, HasRoom};
-ghost use Rattle.serial_arena.specs.Serial.{used_of, allocated_of, IsSerial};
+ghost use Rattle.arena_mem.specs.Places.{used};
+ghost use Rattle.serial_arena.specs.Serial.{places_of, used_of, allocated_of, IsSerial};
 
 use crate::kept::KeptBytes;
 use crate::span::Span;
@@ -88,6 +89,7 @@ impl SerialArena {
     /// The lengths of the placements together, in bytes, each rounded up to a multiple of 8.
     pub fn space_used(&self) -> u64
         ensures used { result ≡ used_of self.now }
+        ensures places { result ≡ used (places_of self.now) }
         ensures serial { IsSerial self.now }
     {
         self.used

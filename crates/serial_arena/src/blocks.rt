@@ -179,3 +179,30 @@ pub(crate) fn write_part(blocks: &mut Vec<Block>, block: u32, offset: u32, bytes
 {
     blocks[block as usize].write(offset, bytes);
 }
+
+// Copies `len` bytes from one block and offset to another, within one block or between two.
+pub(crate) fn copy_part(
+    blocks: &mut [Block],
+    from: u32,
+    from_offset: u32,
+    to: u32,
+    to_offset: u32,
+    len: u32,
+)
+    requires from_there { from < length blocks.old }
+    requires to_there { to < length blocks.old }
+    requires from_part { IsPart (block_at blocks.old from) from_offset len }
+    requires to_part { IsPart (block_at blocks.old to) to_offset len }
+    ensures { blocks.new ≡ with_written blocks.old to to_offset (part_of (block_at blocks.old from) from_offset len) }
+{
+    let (from, to) = (from as usize, to as usize);
+    if from == to {
+        blocks[from].copy(from_offset, to_offset, len);
+    } else if from < to {
+        let (front, back) = blocks.split_at_mut(to);
+        back[0].write(to_offset, front[from].read(from_offset, len));
+    } else {
+        let (front, back) = blocks.split_at_mut(from);
+        front[to].write(to_offset, back[0].read(from_offset, len));
+    }
+}

@@ -10,5 +10,5 @@ returns-then-value-eq0-clause-frame c =
 
 pub returns-clause-frame : goal.returns-clause-frame
 returns-clause-frame c =
-    prefix_put c.args.buffer.now c.put_varint-end.new.buffer c.args.filled c.put_varint-end.result c.args.value c.if-value-eq0.false c.requires (omega (arith, c.put_varint-end.ensures.bound))
+    prefix_put c.args.buffer.now c.put_varint-end.new.room c.args.filled c.put_varint-end.result c.args.value c.if-value-eq0.false c.requires (omega (arith, c.put_varint-end.ensures.bound))
     (omega (arith, c.put_varint-end.ensures.bound, length-set c.args.buffer.now (c.args.filled + 1) 8)) c.put_varint-end.ensures.spelled

@@ -1,4 +1,4 @@
-use Rattle.serial_arena.proofs.Names.{lives}
+use Rattle.arena_mem.proofs.Maps.{lives}
 use Rattle.serial_arena.proofs.tests.a_write_changes_one_place.Goals as goal
 
 pub write-requires-clause-live : goal.write-requires-clause-live

@@ -3,8 +3,11 @@ use Rattle.std.specs.Prelude.{map}
 use Rattle.std.specs.FinMap as fin
 use Rattle.std.proofs.lemmas.List.{map-append, length-map}
 use Rattle.arena_mem.specs.declared.place.Buffer.{Buffer}
-use Rattle.serial_arena.specs.Serial.{SerialState, buffers_of, with_kept}
+use Rattle.serial_arena.specs.Key.{key_of}
+use Rattle.serial_arena.specs.Serial.{SerialState, places_of, buffers_of, blocks_of, with_kept}
 use Rattle.serial_arena.specs.declared.kept.KeptBytes.{KeptBytes}
+use Rattle.arena_mem.proofs.Maps.{len-kept}
+use Rattle.arena_mem.proofs.Growth.{kept_grows}
 use Rattle.serial_arena.proofs.Names.{next_buffer, next_buffer_is_new, with_kept_inserts, new_buffer_is, with_kept_keeps}
 use Rattle.serial_arena.proofs.States.{kept_more}
 use Rattle.serial_arena.proofs.memory.SerialArenaMemory.keep.Goals as goal
@@ -35,3 +38,9 @@ returns-clause-map c = ap buffers_of (returns-clause-kept c) ∙ with_kept_inser
 
 pub returns-clause-rest : goal.returns-clause-rest
 returns-clause-rest c b was is = ap (λ (s : SerialState). fin.get (buffers_of s) b) (returns-clause-kept c) ∙ with_kept_keeps c.args.self.now c.args.bytes.items b was is
+
+pub returns-clause-count : goal.returns-clause-count
+returns-clause-count c = ap fin.len (returns-clause-map c) ∙ len-kept (buffers_of c.args.self.now) (answer c) _ (returns-clause-fresh c)
+
+pub returns-clause-grows : goal.returns-clause-grows
+returns-clause-grows c = kept_grows key_of places_of buffers_of blocks_of _ _ (ap key_of (returns-clause-kept c)) (returns-clause-rest c) (returns-clause-count c) (ap places_of (returns-clause-kept c)) (λ region. ap (λ (s : SerialState). blocks_of s region) (returns-clause-kept c))

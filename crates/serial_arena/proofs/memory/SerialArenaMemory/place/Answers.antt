@@ -6,13 +6,16 @@ use Rattle.std.proofs.lemmas.Bool.{false≢true}
 use Rattle.arena_mem.specs.declared.memory.MemFault.TheVariants.{BlocksSpent}
 use Rattle.std.specs.FinMap as fin
 use Rattle.arena_mem.specs.declared.place.Place.{Place}
-use Rattle.arena_mem.specs.Places.{AddsAtMostABlock, round8}
+use Rattle.arena_mem.specs.Places.{AddsAtMostABlock, round8, used}
 use Rattle.arena_block.specs.Block.{BlockState}
 use Rattle.serial_arena.specs.declared.span.Span.{Span}
 use Rattle.serial_arena.specs.declared.kept.KeptBytes.{KeptBytes}
 use Rattle.serial_arena.specs.Laid.{Laid}
 use Rattle.serial_arena.specs.Layout.{HoldsAll, newest, blocks_for, size_for, with_filled, AreSpent, Refused}
-use Rattle.serial_arena.specs.Serial.{SerialState, places_of, blocks_of, spans_of, with_place}
+use Rattle.serial_arena.specs.Key.{key_of}
+use Rattle.serial_arena.specs.Serial.{SerialState, places_of, buffers_of, blocks_of, spans_of, with_place}
+use Rattle.arena_mem.proofs.Maps.{len-inserted, used-inserted}
+use Rattle.arena_mem.proofs.Growth.{placed_grows}
 use Rattle.serial_arena.proofs.Names.{next_is_new, with_place_inserts, new_place_is_zero, with_place_keeps, one_block_more}
 use Rattle.serial_arena.proofs.States.{held, state_serial, placed, holds_placed, here_named, are_spent, refuses}
 use Rattle.serial_arena.proofs.memory.SerialArenaMemory.place.Goals as goal
@@ -112,3 +115,12 @@ returns-clause-blocks c = subst (λ (s : SerialState). AddsAtMostABlock (blocks_
 
 pub returns-clause-full : goal.returns-clause-full
 returns-clause-full c = λ them. absurd (unspent c (are_spent _ _ _ _ _ _ _ _ _ _ c.self.view_is c.self.invariant c.args.bytes them))
+
+pub returns-clause-count : goal.returns-clause-count
+returns-clause-count c = ap fin.len (returns-clause-map c) ∙ len-inserted (places_of c.args.self.now) (answer c) _ (returns-clause-fresh c)
+
+pub returns-clause-space : goal.returns-clause-space
+returns-clause-space c = ap used (returns-clause-map c) ∙ used-inserted (places_of c.args.self.now) (answer c) _ (returns-clause-fresh c)
+
+pub returns-clause-grows : goal.returns-clause-grows
+returns-clause-grows c = placed_grows key_of places_of buffers_of blocks_of _ _ (ap key_of (returns-clause-placed c)) (returns-clause-rest c) (returns-clause-count c) (ap buffers_of (returns-clause-placed c)) (returns-clause-blocks c)

@@ -1,7 +1,8 @@
 use Rattle.std.proofs.Common.{sym, ap, subst, ◌∙◌, arith}
 use Rattle.std.specs.Prelude.{map}
 use Rattle.std.specs.FinMap as fin
-use Rattle.arena_mem.specs.Places.{IsLive}
+use Rattle.arena_mem.specs.Places.{IsLive, used}
+use Rattle.arena_mem.proofs.Maps.{len-written, used-written}
 use Rattle.serial_arena.specs.Serial.{SerialState, places_of}
 use Rattle.serial_arena.specs.Layout.{HoldsAll}
 use Rattle.serial_arena.specs.declared.kept.KeptBytes.{KeptBytes}
@@ -41,3 +42,9 @@ returns-clause-map c = ap places_of (returns-clause-wrote c) ∙ with_bytes_is c
 
 pub returns-clause-still_live : goal.returns-clause-still_live
 returns-clause-still_live c q there = subst (λ (s : SerialState). IsLive (places_of s) q) (sym (returns-clause-wrote c)) (with_bytes_live c.args.self.now c.args.place c.args.start c.args.bytes.now c.requires.live q there)
+
+pub returns-clause-count : goal.returns-clause-count
+returns-clause-count c = ap fin.len (returns-clause-map c) ∙ len-written (places_of c.args.self.now) c.args.place c.args.start c.args.bytes.now
+
+pub returns-clause-space : goal.returns-clause-space
+returns-clause-space c = ap used (returns-clause-map c) ∙ used-written (places_of c.args.self.now) c.args.place c.args.start c.args.bytes.now

@@ -1,0 +1,50 @@
+"""What the scripts of this folder share: the built program, programs in C and C++, and times of whole processes."""
+import os
+import subprocess
+import sys
+import time
+from collections import namedtuple
+from pathlib import Path
+
+BENCH = Path(__file__).resolve().parent
+TOP = BENCH.parent
+# How ./arena lets large vectors use huge pages; a row of small pages is measured without it.
+HUGE = {"GLIBC_TUNABLES": "glibc.malloc.hugetlb=1"}
+NOT_BUILT = 125
+
+Timed = namedtuple("Timed", "seconds processor status peak_mib")
+
+
+def program():
+    """The path of the program, built first where it isn't or where a source is newer. Ends the script where it can't be."""
+    done = subprocess.run([TOP / "arena"], stdout=subprocess.DEVNULL, stderr=subprocess.PIPE, text=True)
+    if done.returncode == NOT_BUILT:
+        sys.exit(done.stderr + "nothing was measured: the program wasn't built")
+    return TOP / "crates/arena_cli/out/arena_cli"
+
+
+def compiled(source, folder):
+    """The path of a program in C from this folder, built by `cc -O2`."""
+    out = Path(folder, Path(source).stem)
+    subprocess.run(["cc", "-O2", "-o", out, BENCH / source], check=True)
+    return out
+
+
+def timed(command, more, out=os.devnull):
+    """Runs the command to its end, with `more` in its environment and its output in the file `out`."""
+    environment = {key: value for key, value in os.environ.items() if key != "GLIBC_TUNABLES"} | more
+    with open(out, "wb") as file:
+        start = time.perf_counter()
+        process = subprocess.Popen([str(word) for word in command], stdout=file, stderr=subprocess.DEVNULL, env=environment)
+        _, status, usage = os.wait4(process.pid, 0)
+        seconds = time.perf_counter() - start
+    code = os.waitstatus_to_exitcode(status)
+    process.returncode = code
+    return Timed(seconds, usage.ru_utime + usage.ru_stime, code, usage.ru_maxrss / 1024)
+
+
+def best(old, new):
+    """The better of two timings in each figure."""
+    if old is None:
+        return new
+    return Timed(min(old.seconds, new.seconds), min(old.processor, new.processor), new.status, min(old.peak_mib, new.peak_mib))
