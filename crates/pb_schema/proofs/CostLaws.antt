@@ -21,6 +21,7 @@ use Rattle.pb_schema.specs.ShapeOf.{records_of_all, piece_of, pieces_of, shape_l
 use Rattle.pb_schema.specs.Meter.{Meter, GrowsInParts}
 use Rattle.pb_schema.specs.ParseCost.{NestCost, string_cost, merged_cost, single_cost, element_cost, value_count, list_cost, cost_by, field_cost, pieces_cost, gathered_cost, cost_left}
 use Rattle.pb_schema.specs.MergeCost.{how_many}
+use Rattle.pb_schema.proofs.TreeLists.{values_of_list}
 use Rattle.pb_schema.specs.MoreCost.{NestMore, merged_more, single_more, runs_more, more_by, fields_more, gathered_more, more_left}
 
 -- SUMS
@@ -145,13 +146,9 @@ count_of schema nest field r = by (value_type_of field.kind)
     by Octets = refl
     by (Nested type_no) = refl
 
-listed : {U : Type 0} (vs : List (ValueWith U)) → length (values_in_list (value_list vs)) ≡ length vs
-listed [] = refl
-listed (v ∷ vs) = ap suc (listed vs)
-
 held_count : {U : Type 0} (schema : Schema) (nest : Nest U) (field : FieldType) (rs : List Record) → how_many (Many (value_list (flat_map (values_in schema nest field) rs))) ≡ sum_by (value_count schema field) rs
 held_count schema nest field rs =
-    listed (flat_map (values_in schema nest field) rs)
+    ap length (values_of_list (flat_map (values_in schema nest field) rs))
     ∙ (length-flat_map (values_in schema nest field) rs ∙ sum_same (λ r. length (values_in schema nest field r)) (value_count schema field) rs (count_of schema nest field))
 
 list_later : (meter : Meter) → GrowsInParts meter → (schema : Schema) (nest : NestCost) (field : FieldType) (rs qs : List Record)

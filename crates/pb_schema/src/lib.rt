@@ -4,8 +4,10 @@
 //! It stands at the bottom, beside the code: the contracts of the layers above cite its `specs/`, and its
 //! functions state laws over them. Its contract: varints, frames and records have at most one reading, and the
 //! function that computes it finds it exactly where there is one. A payload has a tree exactly where it has no fault,
-//! and by a lawful schema that tree is one that a message of its type may be. What is written is read back: shown of
-//! frames and of messages of `pb.Tick`, and of other trees by worked values alone.
+//! and by a lawful schema that tree is one that a message of its type may be. The shape of payloads, a tree with its
+//! unknown bytes in pieces, is their tree once the pieces are joined, and what payloads count in a memory is said over
+//! it. What is written is read back: shown of frames, of numbers and of messages of `pb.Tick`, and of other trees by
+//! worked values alone.
 #![tactic(auto)]
 
 mod kind;
