@@ -1,12 +1,10 @@
 -- Payloads one behind the other: records without a fault in front are walked over, so that what stands behind them is read as it is; and the records of both are those of the first and then those of the second.
-use Rattle.std.proofs.Common.{◌≡◌, ℕ, ◌+◌, ◌-◌, List, [], ◌∷◌, ◌++◌, length, drop, None, Result, Ok, refl, sym, ap, ◌∙◌, subst, arith, length-append, append_assoc}
+use Rattle.std.proofs.Common.{◌≡◌, ℕ, ◌+◌, ◌-◌, List, [], ◌∷◌, ◌++◌, length, drop, None, Ok, refl, sym, ap, ◌∙◌, subst, arith, length-append, append_assoc}
 use Rattle.std.proofs.lemmas.List.{drop_at}
 use Rattle.pb_schema.specs.declared.kind.FieldType.{FieldType}
 use Rattle.pb_schema.specs.declared.schema.Schema.{Schema}
-use Rattle.pb_schema.specs.declared.wire_fault.WireFault.{WireFault}
-use Rattle.pb_schema.specs.Reads.{fault_read}
 use Rattle.pb_schema.specs.Fits.{fields_of}
-use Rattle.pb_schema.specs.Walk.{in_message, Stop, walk, walk_left, deeper_left}
+use Rattle.pb_schema.specs.Walk.{in_message, walk, walk_left, deeper_left}
 use Rattle.pb_schema.specs.Records.{Record, AreRecords, RecordsWithin}
 use Rattle.pb_schema.specs.Broken.{most_levels}
 use Rattle.pb_schema.specs.Fault.{fault_of}
@@ -15,7 +13,7 @@ use Rattle.pb_schema.proofs.WalkSteps.{walk_more, walk_left_is}
 use Rattle.pb_schema.proofs.RecordsFront.{each_front, record_size, records_of_spans}
 use Rattle.pb_schema.proofs.FaultLaws.{walk_ok}
 use Rattle.pb_schema.proofs.Runs.{Each}
-use Rattle.pb_schema.proofs.SoundRecords.{Holds, Sound, Anywhere, anywhere, typed_held, spans_join, walk_sound}
+use Rattle.pb_schema.proofs.SoundRecords.{Holds, Sound, anywhere, typed_held, spans_join, walk_sound}
 use Rattle.pb_schema.proofs.FittedLaws.{no_fault_sound, sound_records, sound_unbroken}
 
 over : (schema : Schema) (left : ℕ) (fields : List FieldType) (rs : List Record) (at : ℕ) (x y : List ℕ) → RecordsWithin left x rs → Each (Holds schema left fields) rs → walk schema (deeper_left schema left) (in_message fields) at 0 (x ++ y) ≡ walk schema (deeper_left schema left) (in_message fields) (at + length x) 0 y

@@ -1,15 +1,11 @@
 -- Worked costs over the built-in types, whose records have 32 and 192 bytes, computed by the definitions. Bytes are decimal.
-use Rattle.std.proofs.Common.{◌≡◌, ◌+◌, ◌*◌, ℕ, zero, suc, List, [], ◌∷◌, ◌++◌, refl}
+use Rattle.std.proofs.Common.{◌≡◌, ◌+◌, ℕ, zero, suc, List, [], ◌∷◌, ◌++◌, refl}
 use Rattle.std.specs.Prelude.{replicate}
-use Rattle.std.specs.Str.{is_utf8, chars}
-use lib.Utf8.{encode}
-use Rattle.pb_schema.specs.Builtin.{builtin, node_fields}
-use Rattle.pb_schema.specs.Tree.{Shape}
-use Rattle.pb_schema.specs.Empty.{empty_with}
+use Rattle.pb_schema.specs.Builtin.{builtin}
 use Rattle.pb_schema.specs.ShapeOf.{shape_of}
 use Rattle.pb_schema.specs.Meter.{Meter, string_bytes, array_bytes, placed_bytes, cleanups}
 use Rattle.pb_schema.specs.ParseCost.{parse_cost}
-use Rattle.pb_schema.specs.MergeCost.{merge_cost, fresh_cost}
+use Rattle.pb_schema.specs.MergeCost.{fresh_cost}
 
 abbrev sizes : ℕ → ℕ
 sizes zero = 32

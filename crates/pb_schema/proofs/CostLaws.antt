@@ -1,6 +1,6 @@
 -- What payloads count that are read one after another: those that come later count what the shape of the earlier ones and they themselves say.
-use Rattle.std.proofs.Common.{◌≡◌, ℕ, zero, suc, ◌+◌, ◌≤◌, List, [], ◌∷◌, ◌++◌, length, map, not, Option, None, Some, refl, sym, ap, ◌∙◌, arith, append-nil, append_assoc, length-append, cond, Bool, true, false}
-use Rattle.std.specs.Prelude.{sum_by, filter, flat_map}
+use Rattle.std.proofs.Common.{◌≡◌, ℕ, zero, suc, ◌+◌, List, [], ◌∷◌, ◌++◌, length, map, not, refl, sym, ap, ◌∙◌, arith, append-nil, length-append, cond, Bool, true, false}
+use Rattle.std.specs.Prelude.{sum_by, flat_map}
 use Rattle.std.specs.List.{slice_split, onto_first}
 use Rattle.std.proofs.lemmas.Grind.{flat_map-append}
 use Rattle.std.proofs.lemmas.List.{map-append}
@@ -11,18 +11,18 @@ use Rattle.pb_schema.specs.declared.kind.Card.{Card}
 use Rattle.pb_schema.specs.declared.kind.Card.TheVariants as cards
 use Rattle.pb_schema.specs.declared.kind.FieldType.{FieldType}
 use Rattle.pb_schema.specs.declared.schema.Schema.{Schema}
-use Rattle.pb_schema.specs.Kinds.{Coding, ValueType, Scalar, Characters, Octets, Nested, value_type_of, slot_of}
+use Rattle.pb_schema.specs.Kinds.{ValueType, Scalar, Characters, Octets, Nested, value_type_of, slot_of}
 use Rattle.pb_schema.specs.Fits.{takes, fields_of}
-use Rattle.pb_schema.specs.Broken.{most_levels}
 use Rattle.pb_schema.specs.Records.{Record}
-use Rattle.pb_schema.specs.Tree.{ValueWith, Number, Bytes, Sub, HeldWith, Nothing, One, Many, Shape, Message, HeldListWith, FieldAnd, value_list, held_list, values_in_list}
+use Rattle.pb_schema.specs.Tree.{ValueWith, Number, Bytes, Sub, HeldWith, Nothing, One, Many, Shape, Message, value_list, held_list, values_in_list}
 use Rattle.pb_schema.specs.Empty.{empty_with}
-use Rattle.pb_schema.specs.TreeOf.{Nest, payloads_of, fitting, is_of_oneof, of_oneof, runs, last_of, or_none, last_run, single_by, single, values_by, values_in, unless_default, held_by, held_of, records_in}
-use Rattle.pb_schema.specs.ShapeOf.{records_of_all, piece_of, pieces_of, shape_left, shape_of}
+use Rattle.pb_schema.specs.TreeOf.{Nest, payloads_of, fitting, is_of_oneof, of_oneof, runs, last_of, or_none, single_by, single, values_by, values_in, unless_default, held_by, held_of, records_in}
+use Rattle.pb_schema.specs.ShapeOf.{records_of_all, piece_of, pieces_of, shape_left}
 use Rattle.pb_schema.specs.Meter.{Meter, GrowsInParts}
-use Rattle.pb_schema.specs.ParseCost.{NestCost, string_cost, merged_cost, single_cost, element_cost, value_count, list_cost, cost_by, field_cost, pieces_cost, gathered_cost, cost_left, parse_cost}
+use Rattle.pb_schema.specs.ParseCost.{NestCost, string_cost, merged_cost, single_cost, element_cost, value_count, list_cost, cost_by, field_cost, pieces_cost, gathered_cost, cost_left}
 use Rattle.pb_schema.specs.MergeCost.{how_many}
-use Rattle.pb_schema.specs.MoreCost.{NestMore, merged_more, single_more, runs_more, more_by, fields_more, gathered_more, more_left, more_cost}
+use Rattle.pb_schema.proofs.TreeLists.{values_of_list}
+use Rattle.pb_schema.specs.MoreCost.{NestMore, merged_more, single_more, runs_more, more_by, fields_more, gathered_more, more_left}
 
 -- SUMS
 
@@ -146,13 +146,9 @@ count_of schema nest field r = by (value_type_of field.kind)
     by Octets = refl
     by (Nested type_no) = refl
 
-listed : {U : Type 0} (vs : List (ValueWith U)) → length (values_in_list (value_list vs)) ≡ length vs
-listed [] = refl
-listed (v ∷ vs) = ap suc (listed vs)
-
 held_count : {U : Type 0} (schema : Schema) (nest : Nest U) (field : FieldType) (rs : List Record) → how_many (Many (value_list (flat_map (values_in schema nest field) rs))) ≡ sum_by (value_count schema field) rs
 held_count schema nest field rs =
-    listed (flat_map (values_in schema nest field) rs)
+    ap length (values_of_list (flat_map (values_in schema nest field) rs))
     ∙ (length-flat_map (values_in schema nest field) rs ∙ sum_same (λ r. length (values_in schema nest field r)) (value_count schema field) rs (count_of schema nest field))
 
 list_later : (meter : Meter) → GrowsInParts meter → (schema : Schema) (nest : NestCost) (field : FieldType) (rs qs : List Record)

@@ -1,10 +1,10 @@
 -- A kind reads what it writes: each pattern is written as a number that its wire type holds, and that number as bytes which are read as the pattern.
-use Rattle.std.proofs.Common.{◌≡◌, ℕ, zero, suc, ◌+◌, ◌-◌, ◌*◌, ◌/◌, ◌%◌, ◌^◌, ◌<◌, ◌≤◌, List, [], ◌∷◌, Bool, true, false, cond, eqb, ltb, refl, sym, ap, ◌∙◌, subst, ⊎_elim, arith, pow-suc}
+use Rattle.std.proofs.Common.{◌≡◌, ℕ, zero, suc, ◌+◌, ◌-◌, ◌*◌, ◌/◌, ◌%◌, ◌^◌, ◌<◌, ◌≤◌, cond, refl, sym, ap, ◌∙◌, subst, ⊎_elim, arith, pow-suc}
 use Rattle.std.proofs.lemmas.Bool.{cases_lt, lt-ltb, le-ltb, eq-eqb, ne_eqb}
 use Rattle.pb_schema.specs.declared.kind.Kind.{Kind}
 use Rattle.pb_schema.specs.declared.kind.Kind.TheVariants as kinds
-use Rattle.pb_schema.specs.Varint.{value_bytes, varint_of, seven_bits}
-use Rattle.pb_schema.specs.Kinds.{Coding, ValueType, Scalar, Characters, Octets, Nested, value_type_of, wire_numbers, low_32, sign_extended, truth, zigzag, unzigzag}
+use Rattle.pb_schema.specs.Varint.{value_bytes}
+use Rattle.pb_schema.specs.Kinds.{Coding, ValueType, Scalar, value_type_of, wire_numbers, low_32, sign_extended, truth, zigzag, unzigzag}
 use Rattle.pb_schema.specs.Text.{low_first, number_text}
 use Rattle.pb_schema.specs.TreeOf.{little_endian, number_in, pattern_in}
 use Rattle.pb_schema.proofs.Steps.{length-varint_of}

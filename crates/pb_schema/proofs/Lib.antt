@@ -13,6 +13,7 @@ pub mod OneRecord
 pub mod MergeLaws
 pub mod MapLaws
 pub mod FaultLaws
+pub mod TreeLists
 pub mod HeldLaws
 pub mod PayloadLaws
 pub mod MeterLaws

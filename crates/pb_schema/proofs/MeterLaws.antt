@@ -1,7 +1,7 @@
 -- Laws of the meters: arrays count the same in one go and in parts.
-use Rattle.std.proofs.Common.{◌≡◌, ◌≢◌, ◌⊎◌, ℕ, zero, suc, ◌+◌, ◌-◌, ◌*◌, ◌^◌, ◌<◌, ◌≤◌, Bool, true, false, cond, ◌&&◌, eqb, ltb, leb, refl, sym, ap, ◌∙◌, ⊎_elim, arith, pow-suc}
-use Rattle.std.proofs.lemmas.Bool.{cases_lt, lt-ltb, le-ltb, lt-leb, le-leb, ltb-true, leb-true, eq-eqb, ne_eqb}
-use Rattle.pb_schema.specs.Meter.{Meter, round8, rooms, follower_bytes, followers_bytes, first_bytes, array_bytes, placed_bytes, cleanups, GrowsInParts}
+use Rattle.std.proofs.Common.{◌≡◌, ℕ, zero, suc, ◌+◌, ◌-◌, ◌*◌, ◌<◌, ◌≤◌, Bool, true, false, cond, ◌&&◌, ltb, leb, refl, sym, ap, ◌∙◌, ⊎_elim, arith, pow-suc}
+use Rattle.std.proofs.lemmas.Bool.{cases_lt, lt-ltb, le-ltb, lt-leb, le-leb}
+use Rattle.pb_schema.specs.Meter.{round8, rooms, follower_bytes, followers_bytes, first_bytes, array_bytes, placed_bytes, cleanups, GrowsInParts}
 
 -- a room is greater than its place
 room_above : (k : ℕ) → suc k ≤ rooms k

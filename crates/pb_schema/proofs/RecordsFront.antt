@@ -153,7 +153,7 @@ walk_front levels each number at (r ∷ rs) contents end rest p q =
     walk_more no_types (deeper_left no_types levels) (in_group [] number) at s front.form front.whole front.form_is (and_no (eqb front.form.wire 4) (eqb front.form.number number) (ne_eqb front.form.wire 4 front.no_end)) front.held (omega (arith, size, some)) (omega (arith, size, filled, all))
     ∙ (ap (λ x. walk no_types (deeper_left no_types levels) (in_group [] number) (at + front.whole.size) 0 x) (ap (λ n. drop n s) size ∙ (ap (drop (length r.span)) here ∙ drop_at r.span tail (length r.span) refl))
     ∙ (walk_front levels each number (at + front.whole.size) rs p.0 end rest p.3 q
-    ∙ (ap (λ n. Ok (n, at + front.whole.size + (length p.0 + length end))) stop ∙ ap (λ n. Ok (at + length contents, n)) behind)))
+    ∙ ◌∙◌ {b = Ok (at + length contents, at + front.whole.size + (length p.0 + length end))} (ap (λ n. Ok (n, at + front.whole.size + (length p.0 + length end))) stop) (ap (λ n. Ok (at + length contents, n)) behind)))
   where
     record_size : (r : Record) → IsRecord (AreRecords levels) r → 1 ≤ length r.span
     record_size r p =

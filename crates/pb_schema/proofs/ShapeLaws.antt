@@ -1,33 +1,31 @@
 -- The shape of payloads with its pieces joined is the tree of the payloads one behind the other, where each of them is sound.
-use Rattle.std.proofs.Common.{◌≡◌, ℕ, zero, suc, ◌-◌, ◌≤◌, List, [], ◌∷◌, ◌++◌, map, Bool, true, false, Option, None, Some, refl, sym, ap, ◌∙◌, subst, arith, append-nil}
+use Rattle.std.proofs.Common.{◌≡◌, ℕ, zero, suc, List, [], ◌∷◌, ◌++◌, map, Bool, Option, None, Some, refl, sym, ap, ◌∙◌, subst, append-nil}
 use Rattle.std.specs.Prelude.{flat_map, All}
 use Rattle.std.specs.List.{concat}
 use Rattle.std.proofs.lemmas.Grind.{flat_map-append}
 use Rattle.std.proofs.lemmas.List.{map-append}
 use Rattle.std.proofs.lemmas.List.Elements.{All-head, All-tail}
 use Rattle.std.proofs.lemmas.List.Folds.{concat-append}
-use Rattle.std.proofs.lemmas.Option.{none-some, same_Some}
 use Rattle.pb_schema.specs.declared.kind.Card.{Card}
 use Rattle.pb_schema.specs.declared.kind.Card.TheVariants as cards
 use Rattle.pb_schema.specs.declared.kind.FieldType.{FieldType}
 use Rattle.pb_schema.specs.declared.schema.Schema.{Schema}
 use Rattle.pb_schema.specs.declared.wire_fault.WireKind.TheVariants.{TooDeep}
-use Rattle.pb_schema.specs.declared.wire_fault.WireFault.{WireFault}
 use Rattle.pb_schema.specs.Kinds.{Coding, ValueType, Scalar, Characters, Octets, Nested, value_type_of}
 use Rattle.pb_schema.specs.Cards.{is_repeated}
 use Rattle.pb_schema.specs.Fits.{fields_of}
-use Rattle.pb_schema.specs.Records.{Record, AreRecords, RecordsWithin, records_within}
+use Rattle.pb_schema.specs.Records.{Record, AreRecords}
 use Rattle.pb_schema.specs.Broken.{most_levels, broken_of}
-use Rattle.pb_schema.specs.Tree.{ValueWith, Number, Bytes, Sub, HeldWith, Nothing, One, Many, TreeWith, Tree, Message, ValueAnd, FieldAnd, value_list, held_list, value_map, held_map, values_map, fields_map, tree_map}
+use Rattle.pb_schema.specs.Tree.{ValueWith, Number, Bytes, Sub, HeldWith, Nothing, One, Many, Tree, Message, ValueAnd, FieldAnd, value_list, held_list, value_map, held_map, values_map, fields_map, tree_map}
 use Rattle.pb_schema.specs.Empty.{empty_with}
-use Rattle.pb_schema.specs.TreeOf.{pattern_in, elements_from, Nest, fitting, last_of, or_none, payloads_of, last_held, single_by, single, values_by, values_in, unless_default, of_oneof, last_run, held_by, held_of, unknown_in, unknown_of, gathered, records_in, tree_left, tree_of}
+use Rattle.pb_schema.specs.TreeOf.{pattern_in, elements_from, Nest, fitting, last_of, or_none, payloads_of, single_by, single, values_by, values_in, unless_default, of_oneof, last_run, held_by, held_of, unknown_in, unknown_of, gathered, records_in, tree_left, tree_of}
 use Rattle.pb_schema.specs.ShapeOf.{records_of_all, piece, piece_of, pieces_of, shape_left, shape_of}
 use Rattle.pb_schema.specs.Lawful.{NumbersAscend, Lawful}
 use Rattle.pb_schema.proofs.FormLaws.{not_ok}
-use Rattle.pb_schema.proofs.Runs.{Each, each_join}
+use Rattle.pb_schema.proofs.Runs.{Each}
 use Rattle.pb_schema.proofs.RecordsFront.{records_of_spans}
-use Rattle.pb_schema.proofs.SoundRecords.{Holds, Sound, spans_join, sound_join}
-use Rattle.pb_schema.proofs.Gathering.{Taken, TakenIn, Own, EachField, owns, Base, Fine, AllFine, fitting_taken, oneof_taken, messages_fine}
+use Rattle.pb_schema.proofs.SoundRecords.{Sound, spans_join, sound_join}
+use Rattle.pb_schema.proofs.Gathering.{Taken, TakenIn, Own, EachField, owns, Base, AllFine, fitting_taken, oneof_taken, messages_fine}
 use Rattle.pb_schema.proofs.FittedLaws.{AllAscend, all_ascend, each_base, sound_records, sound_unbroken, fine_sound, no_fault_sound, tree_unless, tree_is}
 
 -- WHAT FIELDS GATHER

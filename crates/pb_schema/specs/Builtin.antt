@@ -1,4 +1,6 @@
--- The built-in schema: type 0 is `pb.Tick { uint64 value = 1; }`, and type 1 is `pb.Node { string name = 1; int64 count = 2; repeated Node child = 3; repeated int32 mark = 4; bytes blob = 5; Node next = 6; oneof pick { string word = 7; Node node = 8; } }`, both of proto3.
+-- The built-in schema: type 0 is `pb.Tick { uint64 value = 1; }`, and type 1 is `pb.Node { string name = 1; int64 count
+-- = 2; repeated Node child = 3; repeated int32 mark = 4; bytes blob = 5; Node next = 6; oneof pick { string word = 7;
+-- Node node = 8; } }`, both of proto3.
 use Rattle.std.specs.Prelude.{ℕ, true, false, List, [], ◌∷◌}
 use Rattle.pb_schema.specs.declared.kind.Kind.{Kind}
 use Rattle.pb_schema.specs.declared.kind.Kind.TheVariants as kinds
@@ -13,7 +15,12 @@ field number kind card = record { number = number; kind = kind; card = card }
 
 -- the names are the bytes of `pb.Tick` and `pb.Node`
 abbrev pub tick_type : MessageType
-tick_type = record { name = 112 ∷ 98 ∷ 46 ∷ 84 ∷ 105 ∷ 99 ∷ 107 ∷ []; fields = field 1 kinds.UInt64 cards.Implicit ∷ []; oneofs = 0 }
+tick_type =
+    record {
+      name = 112 ∷ 98 ∷ 46 ∷ 84 ∷ 105 ∷ 99 ∷ 107 ∷ [];
+      fields = field 1 kinds.UInt64 cards.Implicit ∷ [];
+      oneofs = 0;
+    }
 
 abbrev pub node_fields : List FieldType
 node_fields =

@@ -1,4 +1,5 @@
--- How often a field holds a value: what follows from its card alone (proto3 guide, "Specifying Field Labels" and "Oneof"; encoding guide, "Packed Repeated Fields").
+-- How often a field holds a value: what follows from its card alone (proto3 guide, "Specifying Field Labels" and
+-- "Oneof"; encoding guide, "Packed Repeated Fields").
 use Rattle.std.specs.Prelude.{ℕ, Bool, false, true, ◌==◌}
 use Rattle.pb_schema.specs.declared.kind.Card.{Card}
 use Rattle.pb_schema.specs.declared.kind.Card.TheVariants as cards

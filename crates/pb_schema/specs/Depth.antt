@@ -1,4 +1,5 @@
--- How deep messages nest in a tree: 0 without messages inside, else one more than the deepest of them (proto3 guide, "Nested Types").
+-- How deep messages nest in a tree: 0 without messages inside, else one more than the deepest of them (proto3 guide,
+-- "Nested Types").
 use Rattle.std.specs.Prelude.{ℕ, suc, max}
 use Rattle.pb_schema.specs.Tree.{ValueWith, Number, Bytes, Sub, HeldWith, Nothing, One, Many, TreeWith, Message, ValueListWith, NoValues, ValueAnd, HeldListWith, NoFields, FieldAnd}
 

@@ -1,4 +1,5 @@
--- Which records a field takes, and what their payloads have to be (encoding guide, "Message Structure", "Packed Repeated Fields" and "Groups").
+-- Which records a field takes, and what their payloads have to be (encoding guide, "Message Structure", "Packed
+-- Repeated Fields" and "Groups").
 use Rattle.std.specs.Prelude.{ℕ, zero, suc, Bool, ◌&&◌, ◌||◌, ◌==◌, List, [], ◌∷◌, if◌then◌else◌}
 use Rattle.std.specs.List.{list_any}
 use Rattle.pb_schema.specs.declared.kind.FieldType.{FieldType}
@@ -74,7 +75,8 @@ contents_in field r = contents_by (value_type_of field.kind) r.wire
 -- what the payload of a record has to be where a message has these fields; a record that no field takes holds anything
 abbrev pub contents_of : Schema → List FieldType → Record → Contents
 contents_of schema [] r = Anything
-contents_of schema (field ∷ fields) r = if takes schema field r then contents_in field r else contents_of schema fields r
+contents_of schema (field ∷ fields) r =
+    if takes schema field r then contents_in field r else contents_of schema fields r
 
 -- the fields at which the records in a payload are read that has to be this: those of a message, and else none
 abbrev pub fields_within : Schema → Contents → List FieldType

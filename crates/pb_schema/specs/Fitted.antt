@@ -1,4 +1,5 @@
--- The trees that messages of a type may be (proto3 guide, "Scalar Value Types", "Specifying Field Types", "Oneof Features" and "Unknown Fields").
+-- The trees that messages of a type may be (proto3 guide, "Scalar Value Types", "Specifying Field Types", "Oneof
+-- Features" and "Unknown Fields").
 use Rattle.std.specs.Prelude.{◌≢◌, ◌≤◌, ◌<◌, ℕ, ⊤, List, [], ◌∷◌, IsTrue, IsFalse}
 use Rattle.std.specs.Str.{is_utf8}
 use Rattle.pb_schema.specs.declared.kind.Card.{Card}
@@ -95,7 +96,9 @@ abbrev mutual
   FieldsFit schema [] NoFields = ⊤
   FieldsFit schema [] (FieldAnd held rest) = ⊥
   FieldsFit schema (field ∷ fields) NoFields = ⊥
-  FieldsFit schema (field ∷ fields) (FieldAnd held rest) = IsHeldBy field.card held × HeldFits schema field held × IsAlone field.card held fields rest × FieldsFit schema fields rest
+  FieldsFit schema (field ∷ fields) (FieldAnd held rest) =
+      IsHeldBy field.card held × HeldFits schema field held × IsAlone field.card held fields rest
+      × FieldsFit schema fields rest
 
   pub MessageFits : Schema → List FieldType → Tree → Type 0
   MessageFits schema fields (Message held unknown) = FieldsFit schema fields held × IsUnknown schema fields unknown

@@ -1,4 +1,6 @@
--- The kinds of value: their wire types, and how a number stands on the wire and as a bit pattern (encoding guide, "Condensed Reference Card" and "More Integer Types"; proto3 guide, "Scalar Value Types"; descriptor.proto, `FieldDescriptorProto.Type`).
+-- The kinds of value: their wire types, and how a number stands on the wire and as a bit pattern (encoding guide,
+-- "Condensed Reference Card" and "More Integer Types"; proto3 guide, "Scalar Value Types"; descriptor.proto,
+-- `FieldDescriptorProto.Type`).
 -- Each rule about kinds is a rule over the table `value_type_of`.
 use Rattle.std.specs.Prelude.{◌+◌, ◌-◌, ◌*◌, ◌/◌, ◌%◌, ◌^◌, ℕ, zero, suc, Bool, true, false, nat_lt, ◌==◌, if◌then◌else◌}
 use Rattle.pb_schema.specs.declared.kind.Kind.{Kind}
@@ -75,8 +77,16 @@ value_type_of kinds.UInt32 = Scalar (record { wire = 0; slot = 4; patterns = 2 ^
 value_type_of kinds.Enumeration = signed_32
 value_type_of kinds.SFixed32 = four_bytes
 value_type_of kinds.SFixed64 = eight_bytes
-value_type_of kinds.SInt32 = Scalar (record { wire = 0; slot = 4; patterns = 2 ^ 32; kept = λ v. unzigzag (2 ^ 32) (low_32 v); spelled = zigzag (2 ^ 32) })
-value_type_of kinds.SInt64 = Scalar (record { wire = 0; slot = 8; patterns = 2 ^ 64; kept = unzigzag (2 ^ 64); spelled = zigzag (2 ^ 64) })
+value_type_of kinds.SInt32 =
+    Scalar (record {
+      wire = 0;
+      slot = 4;
+      patterns = 2 ^ 32;
+      kept = λ v. unzigzag (2 ^ 32) (low_32 v);
+      spelled = zigzag (2 ^ 32);
+    })
+value_type_of kinds.SInt64 =
+    Scalar (record { wire = 0; slot = 8; patterns = 2 ^ 64; kept = unzigzag (2 ^ 64); spelled = zigzag (2 ^ 64) })
 
 -- the wire type of a value by itself
 abbrev pub value_wire : ValueType → ℕ

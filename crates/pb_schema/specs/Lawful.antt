@@ -1,4 +1,6 @@
--- The schemas that the definitions and their laws speak of (proto3 guide, "Assigning Field Numbers" and "Oneof"; descriptor.proto, `FieldDescriptorProto`). The bounds on how many types, fields and oneofs there are, are this project's own.
+-- The schemas that the definitions and their laws speak of (proto3 guide, "Assigning Field Numbers" and "Oneof";
+-- descriptor.proto, `FieldDescriptorProto`). The bounds on how many types, fields and oneofs there are, are this
+-- project's own.
 use Rattle.std.specs.Prelude.{◌+◌, ◌-◌, ◌^◌, ◌<◌, ◌≤◌, ℕ, ⊤, List, [], ◌∷◌, length, IsTrue}
 use Rattle.pb_schema.specs.declared.kind.Card.{Card}
 use Rattle.pb_schema.specs.declared.kind.Card.TheVariants as cards
@@ -19,7 +21,8 @@ most_oneofs = 2 ^ 22
 -- the numbers ascend without repeats, and are from `least` to 2^29 - 1
 abbrev pub NumbersAscend : ℕ → List FieldType → Type 0
 NumbersAscend least [] = ⊤
-NumbersAscend least (field ∷ fields) = (least ≤ field.number) × (field.number ≤ 2 ^ 29 - 1) × NumbersAscend (field.number + 1) fields
+NumbersAscend least (field ∷ fields) =
+    (least ≤ field.number) × (field.number ≤ 2 ^ 29 - 1) × NumbersAscend (field.number + 1) fields
 
 -- a message is of a type that there is
 abbrev pub IsNamed : ℕ → ValueType → Type 0
@@ -39,7 +42,9 @@ CardAllowed oneofs type (cards.Repeated packed) = IsTrue packed → IsTrue (is_n
 
 abbrev pub FieldsAllowed : ℕ → ℕ → List FieldType → Type 0
 FieldsAllowed types oneofs [] = ⊤
-FieldsAllowed types oneofs (field ∷ fields) = IsNamed types (value_type_of field.kind) × CardAllowed oneofs (value_type_of field.kind) field.card × FieldsAllowed types oneofs fields
+FieldsAllowed types oneofs (field ∷ fields) =
+    IsNamed types (value_type_of field.kind) × CardAllowed oneofs (value_type_of field.kind) field.card
+    × FieldsAllowed types oneofs fields
 
 -- a message type of a schema with so many types
 pub record TypeAllowed (types : ℕ) (type : MessageType) : Type 0 where

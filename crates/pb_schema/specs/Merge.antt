@@ -1,4 +1,5 @@
--- What merging one message into another gives, field by field (encoding guide, "Last One Wins"; proto3 guide, "Oneof Features").
+-- What merging one message into another gives, field by field (encoding guide, "Last One Wins"; proto3 guide, "Oneof
+-- Features").
 use Rattle.std.specs.Prelude.{ℕ, Bool, true, false, ◌&&◌, ◌||◌, List, [], ◌∷◌, ◌++◌, if◌then◌else◌}
 use Rattle.pb_schema.specs.declared.kind.Card.{Card}
 use Rattle.pb_schema.specs.declared.kind.Card.TheVariants as cards
@@ -18,7 +19,8 @@ is_set _ = false
 
 -- a member of the oneof is set
 abbrev pub sets_member : {U : Type 0} → ℕ → List FieldType → HeldListWith U → Bool
-sets_member oneof (field ∷ fields) (FieldAnd held rest) = (is_member oneof field.card && is_set held) || sets_member oneof fields rest
+sets_member oneof (field ∷ fields) (FieldAnd held rest) =
+    (is_member oneof field.card && is_set held) || sets_member oneof fields rest
 sets_member oneof _ _ = false
 
 -- another member of the field's oneof is set, so that what the field held goes
@@ -46,14 +48,19 @@ abbrev mutual
   held_merged join schema field replaced (Many values) (Many others) = Many (joined values others)
 
   -- each field by itself, where `all` are the fields of the type and `whole` is all that the second message holds
-  pub fields_merged : {U : Type 0} → (U → U → U) → Schema → List FieldType → HeldListWith U → List FieldType → HeldListWith U → HeldListWith U → HeldListWith U
+  pub fields_merged : {U : Type 0} → (U → U → U) → Schema → List FieldType → HeldListWith U → List FieldType
+      → HeldListWith U → HeldListWith U → HeldListWith U
   fields_merged join schema all whole fields NoFields theirs = NoFields
   fields_merged join schema all whole [] (FieldAnd held rest) theirs = FieldAnd held rest
   fields_merged join schema all whole (field ∷ fields) (FieldAnd held rest) NoFields = FieldAnd held rest
-  fields_merged join schema all whole (field ∷ fields) (FieldAnd held rest) (FieldAnd other others) = FieldAnd (held_merged join schema field (is_replaced field.card all whole) held other) (fields_merged join schema all whole fields rest others)
+  fields_merged join schema all whole (field ∷ fields) (FieldAnd held rest) (FieldAnd other others) =
+      FieldAnd
+      (held_merged join schema field (is_replaced field.card all whole) held other)
+      (fields_merged join schema all whole fields rest others)
 
   pub message_merged : {U : Type 0} → (U → U → U) → Schema → List FieldType → TreeWith U → TreeWith U → TreeWith U
-  message_merged join schema fields (Message ours unknown) (Message theirs more) = Message (fields_merged join schema fields theirs fields ours theirs) (join unknown more)
+  message_merged join schema fields (Message ours unknown) (Message theirs more) =
+      Message (fields_merged join schema fields theirs fields ours theirs) (join unknown more)
 
 -- the second message merged into the first, both of this type
 abbrev pub merge_of : Schema → ℕ → Tree → Tree → Tree

@@ -1,7 +1,9 @@
--- What messages take of a memory, by a meter: one meter counts the bytes that are placed, another the cleanups that are registered. The rules are this project's own.
+-- What messages take of a memory, by a meter: one meter counts the bytes that are placed, another the cleanups that are
+-- registered. The rules are this project's own.
 use Rattle.std.specs.Prelude.{◌≡◌, ◌≤◌, ◌+◌, ◌*◌, ◌/◌, ◌^◌, ℕ, zero, suc, ◌&&◌, nat_lt, nat_le, if◌then◌else◌}
 
--- what a record of the type with this number counts, what a text or bytes of this length does, and what an array of elements of this size does as it grows from the first count of elements to the second
+-- what a record of the type with this number counts, what a text or bytes of this length does, and what an array of
+-- elements of this size does as it grows from the first count of elements to the second
 pub record Meter : Type 0 where
   pub size : ℕ → ℕ
   pub bytes : ℕ → ℕ
@@ -23,7 +25,8 @@ rooms k = 4 * 2 ^ k
 
 -- the array that follows the one with `rooms k`, where that one is full on the way from `before` to `after` elements
 abbrev pub follower_bytes : ℕ → ℕ → ℕ → ℕ → ℕ
-follower_bytes size before after k = if nat_le before (rooms k) && nat_lt (rooms k) after then round8 (2 * rooms k * size) else 0
+follower_bytes size before after k =
+    if nat_le before (rooms k) && nat_lt (rooms k) after then round8 (2 * rooms k * size) else 0
 
 -- the arrays that follow the first ones of the rooms
 abbrev pub followers_bytes : ℕ → ℕ → ℕ → ℕ → ℕ
@@ -47,11 +50,13 @@ placed_bytes sizes = record { size = sizes; bytes = string_bytes; growth = array
 
 -- 16 bytes and more are kept, with a cleanup
 abbrev pub cleanups : Meter
-cleanups = record { size = λ type_no. 0; bytes = λ length. if nat_lt length 16 then 0 else 1; growth = λ size before after. 0 }
+cleanups =
+    record { size = λ type_no. 0; bytes = λ length. if nat_lt length 16 then 0 else 1; growth = λ size before after. 0 }
 
 -- WHAT EACH METER KEEPS
 
 -- an array that doesn't grow counts nothing, and one that grows counts the same in one go and in two
 pub record GrowsInParts (meter : Meter) : Type 0 where
   pub none : (size count : ℕ) → meter.growth size count count ≡ 0
-  pub parts : (size before between after : ℕ) → before ≤ between → between ≤ after → meter.growth size before after ≡ meter.growth size before between + meter.growth size between after
+  pub parts : (size before between after : ℕ) → before ≤ between → between ≤ after
+      → meter.growth size before after ≡ meter.growth size before between + meter.growth size between after

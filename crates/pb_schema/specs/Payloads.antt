@@ -1,4 +1,5 @@
--- Lists of payloads that are read at one type, and lists of trees that are written: the trees of all payloads, the first payload with a fault, and the texts of all trees, each behind its length.
+-- Lists of payloads that are read at one type, and lists of trees that are written: the trees of all payloads, the
+-- first payload with a fault, and the texts of all trees, each behind its length.
 use Rattle.std.specs.Prelude.{ℕ, suc, List, [], ◌∷◌, flat_map, Option, None, Some, option_and_then}
 use Rattle.std.specs.Option.{option_map}
 use Rattle.pb_schema.specs.declared.schema.Schema.{Schema}
@@ -11,12 +12,19 @@ use Rattle.pb_schema.specs.Text.{framed, text_of}
 -- the tree of each payload, where each of them has one
 abbrev pub trees_of : Schema → ℕ → List (List ℕ) → Option (List Tree)
 trees_of schema type_no [] = Some []
-trees_of schema type_no (payload ∷ payloads) = option_and_then (λ tree. option_map (λ trees. tree ∷ trees) (trees_of schema type_no payloads)) (tree_of schema type_no payload)
+trees_of schema type_no (payload ∷ payloads) =
+    option_and_then
+    (λ tree. option_map (λ trees. tree ∷ trees) (trees_of schema type_no payloads))
+    (tree_of schema type_no payload)
 
 -- the place of the first payload with a fault, and its first fault, where the payloads begin at this place
 abbrev pub bad_payload_from : Schema → ℕ → ℕ → List (List ℕ) → Option (ℕ × WireFault)
 bad_payload_from schema type_no place [] = None
-bad_payload_from schema type_no place (payload ∷ payloads) = elim (fault_of schema type_no 0 payload) [ Some fault ↦ Some (place, fault) | None ↦ bad_payload_from schema type_no (suc place) payloads ]
+bad_payload_from schema type_no place (payload ∷ payloads) =
+    elim (fault_of schema type_no 0 payload) [
+      | Some fault ↦ Some (place, fault)
+      | None ↦ bad_payload_from schema type_no (suc place) payloads
+    ]
 
 -- the place of the first payload with a fault, and its first fault
 abbrev pub bad_payload : Schema → ℕ → List (List ℕ) → Option (ℕ × WireFault)

@@ -1,4 +1,5 @@
--- What reading bytes gives: a value, or the first fault. A fault has its kind and the byte where it stands, counted from the start of the frame's payload.
+-- What reading bytes gives: a value, or the first fault. A fault has its kind and the byte where it stands, counted
+-- from the start of the frame's payload.
 use Rattle.std.specs.Prelude.{ℕ, Result, Ok, Err, Option, None, Some}
 use Rattle.pb_schema.specs.declared.wire_fault.WireKind.{WireKind}
 use Rattle.pb_schema.specs.declared.wire_fault.WireFault.{WireFault}

@@ -11,4 +11,10 @@ pub record Record : Type 0 where
 
 -- the record of this form at the front; of a group whose form is its start tag alone the payload is empty
 abbrev pub record_of : Form → List ℕ → Record
-record_of form s = record { number = form.number; wire = form.wire; payload = take form.payload_len (drop form.payload s); span = take form.size s }
+record_of form s =
+    record {
+      number = form.number;
+      wire = form.wire;
+      payload = take form.payload_len (drop form.payload s);
+      span = take form.size s;
+    }

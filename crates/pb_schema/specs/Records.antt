@@ -13,15 +13,19 @@ pub use Rattle.pb_schema.specs.Record.{Record, record_of}
 abbrev pub Spells : (List ℕ → Type 0) → ℕ → ℕ → List ℕ → List ℕ → Type 0
 Spells AreRecords number zero payload s = (v : ℕ) × Varint payload value_bytes v × (s ≡ payload)
 Spells AreRecords number (suc zero) payload s = (length payload ≡ 8) × (s ≡ payload)
-Spells AreRecords number (suc (suc zero)) payload s = (len : List ℕ) × Varint len length_bytes (length payload) × (length payload < 2 ^ 31) × (s ≡ len ++ payload)
-Spells AreRecords number (suc (suc (suc zero))) payload s = (end : List ℕ) × AreRecords payload × IsTag end number 4 × (s ≡ payload ++ end)
+Spells AreRecords number (suc (suc zero)) payload s =
+    (len : List ℕ) × Varint len length_bytes (length payload) × (length payload < 2 ^ 31) × (s ≡ len ++ payload)
+Spells AreRecords number (suc (suc (suc zero))) payload s =
+    (end : List ℕ) × AreRecords payload × IsTag end number 4 × (s ≡ payload ++ end)
 Spells AreRecords number (suc (suc (suc (suc zero)))) payload s = ⊥
 Spells AreRecords number (suc (suc (suc (suc (suc zero))))) payload s = (length payload ≡ 4) × (s ≡ payload)
 Spells AreRecords number (suc (suc (suc (suc (suc (suc wire)))))) payload s = ⊥
 
 -- the span is a tag and what stands behind it
 abbrev pub IsRecord : (List ℕ → Type 0) → Record → Type 0
-IsRecord AreRecords r = (tag : List ℕ) × (behind : List ℕ) × IsTag tag r.number r.wire × Spells AreRecords r.number r.wire r.payload behind × (r.span ≡ tag ++ behind)
+IsRecord AreRecords r =
+    (tag : List ℕ) × (behind : List ℕ) × IsTag tag r.number r.wire × Spells AreRecords r.number r.wire r.payload behind
+    × (r.span ≡ tag ++ behind)
 
 -- the spans of the records, in order, are the bytes
 abbrev pub Spans : (List ℕ → Type 0) → List Record → List ℕ → Type 0
@@ -45,7 +49,11 @@ Records s rs = (levels : ℕ) × RecordsWithin levels s rs
 abbrev pub records_from : (List ℕ → Option Form) → ℕ → List ℕ → Option (List Record)
 records_from first skip [] = Some []
 records_from first (suc skip) (b ∷ s) = records_from first skip s
-records_from first zero (b ∷ s) = elim (first (b ∷ s)) [ None ↦ None | Some form ↦ option_map (λ rs. record_of form (b ∷ s) ∷ rs) (records_from first (form.size - 1) s) ]
+records_from first zero (b ∷ s) =
+    elim (first (b ∷ s)) [
+      | None ↦ None
+      | Some form ↦ option_map (λ rs. record_of form (b ∷ s) ∷ rs) (records_from first (form.size - 1) s)
+    ]
 
 -- the records, where groups are nested at most so many levels
 abbrev pub records_within : ℕ → List ℕ → Option (List Record)

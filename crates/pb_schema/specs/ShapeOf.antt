@@ -1,4 +1,5 @@
--- The shape of a message that is read from payloads, one after another: what its fields hold is gathered over the records of all of them, and each payload with unknown bytes gives one piece.
+-- The shape of a message that is read from payloads, one after another: what its fields hold is gathered over the
+-- records of all of them, and each payload with unknown bytes gives one piece.
 use Rattle.std.specs.Prelude.{ℕ, zero, suc, List, [], ◌∷◌, flat_map}
 use Rattle.pb_schema.specs.declared.kind.FieldType.{FieldType}
 use Rattle.pb_schema.specs.declared.schema.Schema.{Schema}
@@ -28,8 +29,14 @@ pieces_of schema left fields payloads = flat_map (piece_of schema left fields) p
 
 -- the shape of payloads, where so many levels are left below them
 abbrev pub shape_left : Schema → ℕ → List FieldType → List (List ℕ) → Shape
-shape_left schema zero fields payloads = gathered schema (λ type_no inner. empty_with [] (fields_of schema type_no)) fields (records_of_all 0 payloads) (pieces_of schema 0 fields payloads)
-shape_left schema (suc left) fields payloads = gathered schema (λ type_no inner. shape_left schema left (fields_of schema type_no) inner) fields (records_of_all (suc left) payloads) (pieces_of schema (suc left) fields payloads)
+shape_left schema zero fields payloads =
+    gathered schema (λ type_no inner. empty_with [] (fields_of schema type_no)) fields
+    (records_of_all 0 payloads)
+    (pieces_of schema 0 fields payloads)
+shape_left schema (suc left) fields payloads =
+    gathered schema (λ type_no inner. shape_left schema left (fields_of schema type_no) inner) fields
+    (records_of_all (suc left) payloads)
+    (pieces_of schema (suc left) fields payloads)
 
 -- the shape of payloads at the root
 abbrev pub shape_of : Schema → ℕ → List (List ℕ) → Shape

@@ -1,4 +1,5 @@
--- Tags: a field's number and a wire type in one number (encoding guide, "Message Structure"). Wire types are 0 varint, 1 eight bytes, 2 a length and as many bytes, 3 the start and 4 the end of a group, 5 four bytes.
+-- Tags: a field's number and a wire type in one number (encoding guide, "Message Structure"). Wire types are 0 varint,
+-- 1 eight bytes, 2 a length and as many bytes, 3 the start and 4 the end of a group, 5 four bytes.
 use Rattle.std.specs.Prelude.{◌+◌, ◌-◌, ◌*◌, ◌^◌, ◌<◌, ◌≤◌, ℕ, List}
 use Rattle.pb_schema.specs.Varint.{Varint, tag_bytes}
 

@@ -1,4 +1,5 @@
--- The bytes that are written for a tree: its fields by ascending number, then its unknown bytes (encoding guide, "Message Structure", "Packed Repeated Fields" and "Field Order").
+-- The bytes that are written for a tree: its fields by ascending number, then its unknown bytes (encoding guide,
+-- "Message Structure", "Packed Repeated Fields" and "Field Order").
 use Rattle.std.specs.Prelude.{◌/◌, ◌%◌, ℕ, zero, suc, true, false, List, [], ◌∷◌, ◌++◌, length}
 use Rattle.pb_schema.specs.declared.kind.FieldType.{FieldType}
 use Rattle.pb_schema.specs.declared.schema.Schema.{Schema}
@@ -49,17 +50,23 @@ abbrev mutual
   pub held_text : Schema → FieldType → Held → List ℕ
   held_text schema field Nothing = []
   held_text schema field (One value) = field_tag field ++ value_text schema field value
-  held_text schema field (Many values) = elim (is_packed field.card) [ true ↦ packed_text field.number (values_text schema field [] values) | false ↦ values_text schema field (field_tag field) values ]
+  held_text schema field (Many values) =
+      elim (is_packed field.card) [
+        | true ↦ packed_text field.number (values_text schema field [] values)
+        | false ↦ values_text schema field (field_tag field) values
+      ]
 
   -- the values of a list, each behind the same bytes
   pub values_text : Schema → FieldType → List ℕ → ValueList → List ℕ
   values_text schema field front NoValues = []
-  values_text schema field front (ValueAnd value values) = front ++ value_text schema field value ++ values_text schema field front values
+  values_text schema field front (ValueAnd value values) =
+      front ++ value_text schema field value ++ values_text schema field front values
 
   pub fields_text : Schema → List FieldType → HeldList → List ℕ
   fields_text schema fields NoFields = []
   fields_text schema [] (FieldAnd held rest) = []
-  fields_text schema (field ∷ fields) (FieldAnd held rest) = held_text schema field held ++ fields_text schema fields rest
+  fields_text schema (field ∷ fields) (FieldAnd held rest) =
+      held_text schema field held ++ fields_text schema fields rest
 
   pub message_text : Schema → List FieldType → Tree → List ℕ
   message_text schema fields (Message held unknown) = fields_text schema fields held ++ unknown

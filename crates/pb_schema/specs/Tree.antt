@@ -1,4 +1,6 @@
--- What a message holds: a value, some or none for each of its fields, in the order of the type, and what is unknown to the type, the bytes of the records that fit no field (proto3 guide, "Specifying Field Types" and "Unknown Fields"). A tree has them as the bytes that they are. A shape is a tree that has them in pieces, as they came.
+-- What a message holds: a value, some or none for each of its fields, in the order of the type, and what is unknown to
+-- the type, the bytes of the records that fit no field (proto3 guide, "Specifying Field Types" and "Unknown Fields"). A
+-- tree has them as the bytes that they are. A shape is a tree that has them in pieces, as they came.
 use Rattle.std.specs.Prelude.{ℕ, List, [], ◌∷◌}
 
 mutual

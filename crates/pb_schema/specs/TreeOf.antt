@@ -1,4 +1,5 @@
--- What the bytes of a message stand for (encoding guide, "Last One Wins", "Repeated Elements" and "Packed Repeated Fields"; proto3 guide, "Oneof Features" and "Unknown Fields"). Each field gathers over the whole list of the records.
+-- What the bytes of a message stand for (encoding guide, "Last One Wins", "Repeated Elements" and "Packed Repeated
+-- Fields"; proto3 guide, "Oneof Features" and "Unknown Fields"). Each field gathers over the whole list of the records.
 use Rattle.std.specs.Prelude.{◌+◌, ◌-◌, ◌*◌, ◌%◌, ◌^◌, ℕ, zero, suc, Bool, not, ◌&&◌, List, [], ◌∷◌, take, map, filter, flat_map, Option, None, Some, if◌then◌else◌}
 use Rattle.std.specs.List.{list_any, slice_split, concat}
 use Rattle.pb_schema.specs.declared.kind.Card.{Card}
@@ -32,7 +33,11 @@ number_in (suc wire) s = little_endian s
 abbrev pub elements_from : ℕ → ℕ → List ℕ → List (List ℕ)
 elements_from wire skip [] = []
 elements_from wire (suc skip) (b ∷ s) = elements_from wire skip s
-elements_from wire zero (b ∷ s) = elim (value_read (read_scalar wire 0 (b ∷ s))) [ None ↦ [] | Some n ↦ take n (b ∷ s) ∷ elements_from wire (n - 1) s ]
+elements_from wire zero (b ∷ s) =
+    elim (value_read (read_scalar wire 0 (b ∷ s))) [
+      | None ↦ []
+      | Some n ↦ take n (b ∷ s) ∷ elements_from wire (n - 1) s
+    ]
 
 -- the pattern of the number that some bytes spell
 abbrev pub pattern_in : Coding → List ℕ → ℕ
@@ -119,8 +124,10 @@ last_run schema field rs = or_none (last_of (runs schema field rs))
 abbrev pub held_by : {U : Type 0} → Schema → Nest U → List FieldType → List Record → FieldType → Card → HeldWith U
 held_by schema nest fields rs field cards.Implicit = unless_default (single nest field (fitting schema field rs))
 held_by schema nest fields rs field cards.Explicit = single nest field (fitting schema field rs)
-held_by schema nest fields rs field (cards.Member oneof) = single nest field (last_run schema field (of_oneof schema fields oneof rs))
-held_by schema nest fields rs field (cards.Repeated packed) = Many (value_list (flat_map (values_in schema nest field) (fitting schema field rs)))
+held_by schema nest fields rs field (cards.Member oneof) =
+    single nest field (last_run schema field (of_oneof schema fields oneof rs))
+held_by schema nest fields rs field (cards.Repeated packed) =
+    Many (value_list (flat_map (values_in schema nest field) (fitting schema field rs)))
 
 abbrev pub held_of : {U : Type 0} → Schema → Nest U → List FieldType → List Record → FieldType → HeldWith U
 held_of schema nest fields rs field = held_by schema nest fields rs field field.card
@@ -145,9 +152,19 @@ records_in left s = or_none (records_within left s)
 
 -- the tree of a payload whose bytes have no fault, where so many levels are left below it
 abbrev pub tree_left : Schema → ℕ → List FieldType → List ℕ → Tree
-tree_left schema zero fields s = gathered schema (λ type_no payloads. empty_with [] (fields_of schema type_no)) fields (records_in 0 s) (unknown_of schema fields (records_in 0 s))
-tree_left schema (suc left) fields s = gathered schema (λ type_no payloads. tree_left schema left (fields_of schema type_no) (concat payloads)) fields (records_in (suc left) s) (unknown_of schema fields (records_in (suc left) s))
+tree_left schema zero fields s =
+    gathered schema (λ type_no payloads. empty_with [] (fields_of schema type_no)) fields
+    (records_in 0 s)
+    (unknown_of schema fields (records_in 0 s))
+tree_left schema (suc left) fields s =
+    gathered schema (λ type_no payloads. tree_left schema left (fields_of schema type_no) (concat payloads)) fields
+    (records_in (suc left) s)
+    (unknown_of schema fields (records_in (suc left) s))
 
 -- the tree of a payload at the root; it exists where the bytes have no fault
 abbrev pub tree_of : Schema → ℕ → List ℕ → Option Tree
-tree_of schema type_no s = elim (broken_of schema type_no 0 s) [ None ↦ Some (tree_left schema most_levels (fields_of schema type_no) s) | Some fault ↦ None ]
+tree_of schema type_no s =
+    elim (broken_of schema type_no 0 s) [
+      | None ↦ Some (tree_left schema most_levels (fields_of schema type_no) s)
+      | Some fault ↦ None
+    ]

@@ -1,4 +1,5 @@
--- How large a tree is, in units: a message has 1, its unknown bytes and the units of its values; a number has 1, text and bytes have 1 and their length. The units are this project's own.
+-- How large a tree is, in units: a message has 1, its unknown bytes and the units of its values; a number has 1, text
+-- and bytes have 1 and their length. The units are this project's own.
 use Rattle.std.specs.Prelude.{◌+◌, ℕ, length}
 use Rattle.pb_schema.specs.Tree.{ValueWith, Number, Bytes, Sub, HeldWith, Nothing, One, Many, TreeWith, Tree, Message, ValueListWith, NoValues, ValueAnd, HeldListWith, NoFields, FieldAnd}
 

@@ -1,4 +1,6 @@
--- Reading records in their order: the record at the front, or the first fault in it (encoding guide, "Message Structure", "Groups" and "Length-Delimited Records"). In a record the form comes first, then the depth, then what it holds. The bytes begin at the byte `at` of the frame's payload.
+-- Reading records in their order: the record at the front, or the first fault in it (encoding guide, "Message
+-- Structure", "Groups" and "Length-Delimited Records"). In a record the form comes first, then the depth, then what it
+-- holds. The bytes begin at the byte `at` of the frame's payload.
 use Rattle.std.specs.Prelude.{◌+◌, ◌-◌, ℕ, zero, suc, Bool, true, false, ◌&&◌, ◌==◌, List, [], ◌∷◌, take, drop, Option, None, Some, Result, Ok, if◌then◌else◌}
 use Rattle.std.specs.Str.{is_utf8}
 use Rattle.pb_schema.specs.declared.kind.FieldType.{FieldType}
@@ -23,11 +25,13 @@ in_message fields = record { fields = fields; group = None }
 abbrev pub in_group : List FieldType → ℕ → Inside
 in_group fields number = record { fields = fields; group = Some number }
 
--- where a run of records stops, and where what ends it is over: the same byte at the end of the bytes, and behind the end tag in a group
+-- where a run of records stops, and where what ends it is over: the same byte at the end of the bytes, and behind the
+-- end tag in a group
 abbrev pub Stop : Type 0
 Stop = ℕ × ℕ
 
--- how the records one level deeper are read: by the byte of the tag in front of them, where they stand, the byte where they begin, and the bytes from there on
+-- how the records one level deeper are read: by the byte of the tag in front of them, where they stand, the byte where
+-- they begin, and the bytes from there on
 abbrev pub Deeper : Type 0
 Deeper = ℕ → Inside → ℕ → List ℕ → Result Stop WireFault
 
@@ -44,7 +48,8 @@ abbrev pub read_contents : Schema → Deeper → ℕ → ℕ → List ℕ → Co
 read_contents schema deeper tag at payload Anything = Ok at
 read_contents schema deeper tag at payload (Numbers wire) = numbers_end wire at 0 payload
 read_contents schema deeper tag at payload Utf8 = if is_utf8 payload then Ok at else fault NotUtf8 at
-read_contents schema deeper tag at payload (Message type_no) = deeper tag (in_message (fields_of schema type_no)) at payload >>= λ stop. Ok stop.1
+read_contents schema deeper tag at payload (Message type_no) =
+    deeper tag (in_message (fields_of schema type_no)) at payload >>= λ stop. Ok stop.1
 
 -- a record begins a group, or is an end tag
 abbrev pub is_group : Form → Bool
@@ -59,11 +64,17 @@ closed form at stop = record form { payload_len = stop.0 - (at + form.payload); 
 
 -- a group, whose records are read at what its payload has to be
 abbrev pub read_group : Schema → Deeper → List FieldType → ℕ → List ℕ → Form → Result Form WireFault
-read_group schema deeper fields at s form = deeper at (in_group (fields_within schema (contents_of schema fields (record_of form s))) form.number) (at + form.payload) (drop form.payload s) >>= λ stop. Ok (closed form at stop)
+read_group schema deeper fields at s form =
+    let inner = fields_within schema (contents_of schema fields (record_of form s)) in
+    deeper at (in_group inner form.number) (at + form.payload) (drop form.payload s)
+    >>= λ stop. Ok (closed form at stop)
 
 -- any record but a group and an end tag
 abbrev pub read_plain : Schema → Deeper → List FieldType → ℕ → List ℕ → Form → Result Form WireFault
-read_plain schema deeper fields at s form = read_contents schema deeper at (at + form.payload) (take form.payload_len (drop form.payload s)) (contents_of schema fields (record_of form s)) >>= λ _. Ok form
+read_plain schema deeper fields at s form =
+    let payload = take form.payload_len (drop form.payload s) in
+    read_contents schema deeper at (at + form.payload) payload (contents_of schema fields (record_of form s))
+    >>= λ _. Ok form
 
 -- the record of this form at the front; an end tag is none
 abbrev pub read_held : Schema → Deeper → List FieldType → ℕ → List ℕ → Form → Result Form WireFault
@@ -84,13 +95,16 @@ abbrev pub at_end : Option ℕ → ℕ → Result Stop WireFault
 at_end None at = Ok (at, at)
 at_end (Some number) at = fault Cut at
 
--- records, one after another, up to the end of their group, or of the bytes where they stand in none; behind some bytes that are skipped
+-- records, one after another, up to the end of their group, or of the bytes where they stand in none; behind some bytes
+-- that are skipped
 abbrev pub walk : Schema → Deeper → Inside → ℕ → ℕ → List ℕ → Result Stop WireFault
 walk schema deeper inside at skip [] = at_end inside.group at
 walk schema deeper inside at (suc skip) (b ∷ s) = walk schema deeper inside (suc at) skip s
 walk schema deeper inside at zero (b ∷ s) = form_at at (b ∷ s) >>= λ form. elim (ends inside.group form) [
   | true ↦ Ok (at, at + form.size)
-  | false ↦ read_held schema deeper inside.fields at (b ∷ s) form >>= λ whole. walk schema deeper inside (suc at) (whole.size - 1) s
+  | false ↦
+      read_held schema deeper inside.fields at (b ∷ s) form
+      >>= λ whole. walk schema deeper inside (suc at) (whole.size - 1) s
 ]
 
 -- the records one level deeper than the last that is left
@@ -109,4 +123,5 @@ deeper_left schema (suc left) = walk_left schema left
 
 -- the record at the front, where so many levels are left below it
 abbrev pub record_left : Schema → ℕ → List FieldType → ℕ → List ℕ → Result Form WireFault
-record_left schema left fields at s = form_at at s >>= λ form. read_held schema (deeper_left schema left) fields at s form
+record_left schema left fields at s =
+    form_at at s >>= λ form. read_held schema (deeper_left schema left) fields at s form

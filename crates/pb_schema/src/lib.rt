@@ -4,8 +4,10 @@
 //! It stands at the bottom, beside the code: the contracts of the layers above cite its `specs/`, and its
 //! functions state laws over them. Its contract: varints, frames and records have at most one reading, and the
 //! function that computes it finds it exactly where there is one. A payload has a tree exactly where it has no fault,
-//! and by a lawful schema that tree is one that a message of its type may be. What is written is read back: shown of
-//! frames and of messages of `pb.Tick`, and of other trees by worked values alone.
+//! and by a lawful schema that tree is one that a message of its type may be. The shape of payloads, a tree with its
+//! unknown bytes in pieces, is their tree once the pieces are joined, and what payloads count in a memory is said over
+//! it. What is written is read back: shown of frames, of numbers and of messages of `pb.Tick`, and of other trees by
+//! worked values alone.
 #![tactic(auto)]
 
 mod kind;
@@ -17,10 +19,10 @@ mod wire_fault;
 pub use kind::{Card, FieldType, Kind};
 pub use laws::{
     a_tree_where_no_fault, decoded_trees_are_fitted, empty_merges_to_the_same,
-    frames_are_read_back, kinds_read_what_they_write, later_payloads_count_more, one_framing, one_list_of_records, one_record,
-    one_varint, shapes_are_trees_in_pieces, shortest_varint, ticks_are_read_back,
-    trees_where_none_is_bad, unknown_parts_are_changed_alone, varint_by_places,
-    what_is_put_is_held, what_stands_behind,
+    frames_are_read_back, kinds_read_what_they_write, later_payloads_count_more, one_framing,
+    one_list_of_records, one_record, one_varint, shapes_are_trees_in_pieces, shortest_varint,
+    ticks_are_read_back, trees_where_none_is_bad, unknown_parts_are_changed_alone,
+    varint_by_places, what_is_put_is_held, what_stands_behind,
 };
 pub use lists::{ByteList, FieldList, Name};
 pub use no_memory::NoMemory;
