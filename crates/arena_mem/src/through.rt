@@ -85,7 +85,20 @@ fn place_and_keep<M: Memory>(
     Ok(mem.keep_copy(bytes).ok())
 }
 
-// The same over the lent memory: what was lent has its key when it is back.
+// Two growths, one after the other, are one.
+fn place_and_keep_twice<M: Memory>(
+    mem: &mut M,
+    size: u32,
+    bytes: &[u8],
+) -> Result<Option<Buffer>, MemFault>
+    requires { IsPlaceable size }
+    ensures grows { Grows M.key M.places M.buffers M.blocks 2 4 mem.old mem.new }
+{
+    place_and_keep(mem, size, bytes)?;
+    place_and_keep(mem, size, bytes)
+}
+
+// `place_two` over the lent memory: what was lent has its key when it is back.
 fn place_two_through<M: Memory>(mem: &mut M) -> Result<(Place, Place), MemFault>
     ensures key { M.key mem.new ≡ M.key mem.old }
     ensures count { IfOk result (λ _. map.len (M.places mem.new) ≡ map.len (M.places mem.old) + 2) }
