@@ -11,5 +11,7 @@ pub fn nothing_grows<M: Memory>(mem: &M)
 
 /// A law: two growths, one after the other, are one growth by the sums.
 pub fn growths_join<M: Memory>(mem: &M)
-    ensures { (old mid : M) (p q a b : ℕ) → Grows M.key M.places M.buffers M.blocks p a old mid → Grows M.key M.places M.buffers M.blocks q b mid mem.now → Grows M.key M.places M.buffers M.blocks (p + q) (a + b) old mem.now }
+    ensures { (old mid : M) (p q a b : ℕ) → Grows M.key M.places M.buffers M.blocks p a old mid
+        → Grows M.key M.places M.buffers M.blocks q b mid mem.now
+        → Grows M.key M.places M.buffers M.blocks (p + q) (a + b) old mem.now }
 {}

@@ -1,5 +1,5 @@
 // A memory that is lent, and functions over any memory.
-ghost use Rattle.std.specs.Prelude.{◌≡◌, ◌+◌, ◌≤◌, Some, IfOk, length};
+ghost use Rattle.std.specs.Prelude.{◌≡◌, ◌+◌, ◌≤◌, IfOk, IfSome, length};
 ghost use Rattle.std.specs.FinMap as map;
 ghost use Rattle.arena_mem.specs.Places.{IsPlaceable, used};
 ghost use Rattle.arena_mem.specs.Grows.{Grows};
@@ -76,7 +76,7 @@ fn place_and_keep<M: Memory>(
 ) -> Result<Option<Buffer>, MemFault>
     requires { IsPlaceable size }
     ensures grows { Grows M.key M.places M.buffers M.blocks 1 2 mem.old mem.new }
-    ensures count { IfOk result (λ kept. Rattle.std.specs.Prelude.IfSome kept (λ _. map.len (M.buffers mem.new) ≡ map.len (M.buffers mem.old) + 2)) }
+    ensures count { IfOk result (λ kept. IfSome kept (λ _. map.len (M.buffers mem.new) ≡ map.len (M.buffers mem.old) + 2)) }
 {
     mem.place(size)?;
     if mem.keep_copy(bytes).is_err() {
@@ -85,7 +85,20 @@ fn place_and_keep<M: Memory>(
     Ok(mem.keep_copy(bytes).ok())
 }
 
-// The same over the lent memory: what was lent has its key when it is back.
+// Two growths, one after the other, are one.
+fn place_and_keep_twice<M: Memory>(
+    mem: &mut M,
+    size: u32,
+    bytes: &[u8],
+) -> Result<Option<Buffer>, MemFault>
+    requires { IsPlaceable size }
+    ensures grows { Grows M.key M.places M.buffers M.blocks 2 4 mem.old mem.new }
+{
+    place_and_keep(mem, size, bytes)?;
+    place_and_keep(mem, size, bytes)
+}
+
+// `place_two` over the lent memory: what was lent has its key when it is back.
 fn place_two_through<M: Memory>(mem: &mut M) -> Result<(Place, Place), MemFault>
     ensures key { M.key mem.new ≡ M.key mem.old }
     ensures count { IfOk result (λ _. map.len (M.places mem.new) ≡ map.len (M.places mem.old) + 2) }
