@@ -39,9 +39,9 @@ FIRST_OF_16 = """    if seats.len() < 17 {
 INVARIANT = """use Rattle.std.proofs.Common.{◌≡◌, Some}
 use Rattle.arena_list.specs.contracts.tests.Counter.{the_row}
 use Rattle.arena_list.specs.declared.tests.Counter.{Counter}
-use Rattle.arena_list.specs.Founded.{meter}
-use Rattle.arena_list.specs.Views.{mine}
-use Rattle.arena_list.specs.Seats.{view, IsHome}
+use Rattle.arena_list.specs.Rule.Founded.{meter}
+use Rattle.arena_list.specs.Rule.Views.{mine}
+use Rattle.arena_list.specs.Calls.Seats.{view, IsHome}
 use Rattle.arena_list.proofs.tests.fill.Given as goal
 
 abbrev pub invariant-loop : goal.invariant-loop

@@ -8,7 +8,7 @@ use denote.RattleType.{RattleType}
 use denote.Shadow.{makes_shadow}
 use denote.Struct.Struct.{Struct}
 use denote.Struct.Owning.{shape}
-use Rattle.arena_list.specs.contracts.told.Told as told
+use Rattle.arena_list.specs.contracts.for_clauses.told.Told as told
 
 abbrev pub token_val : Val
 token_val = vstruct (vcons (vstruct vnil) vnil)

@@ -9,20 +9,20 @@ use base.Stored.{Coded}
 use Rattle.arena_list.specs.declared.entry.Entry.{Entry}
 use Rattle.arena_list.specs.declared.list.ListSeat.{ListSeat}
 use Rattle.arena_list.specs.declared.list.ArenaList.{ArenaList}
-use Rattle.arena_list.specs.declared.mark.Mark.{Mark}
-use Rattle.arena_list.specs.declared.view.Hand.{Hand}
-use Rattle.arena_list.specs.Core.{slot_count}
-use Rattle.arena_list.specs.Founded.{Meter, Differ, AreFit, Fits, has, slot, caller}
-use Rattle.arena_list.specs.Made.{AreFirst}
-use Rattle.arena_list.specs.Views.{first_hand, HasSeenOwn}
-use Rattle.arena_list.specs.Marks.{marks}
-use Rattle.arena_list.specs.Seats.{view, callers_of, SameList, IsHome}
-use Rattle.arena_list.specs.Closed.{AreAll}
-use Rattle.arena_list.proofs.Few.{or_at, at_mapped}
-use Rattle.arena_list.proofs.Lists.{at_below, at_there, at_end, same_elements, all_kept}
-use Rattle.arena_list.proofs.Seats.{at_append}
-use Rattle.arena_list.proofs.Opening.{has_at}
-use Rattle.arena_list.proofs.SeatFacts.{seen_own}
+use Rattle.arena_list.specs.declared.for_clauses.mark.Mark.{Mark}
+use Rattle.arena_list.specs.declared.for_clauses.view.Hand.{Hand}
+use Rattle.arena_list.specs.Words.Core.{slot_count}
+use Rattle.arena_list.specs.Rule.Founded.{Meter, Differ, AreFit, Fits, has, slot, caller}
+use Rattle.arena_list.specs.Making.Made.{AreFirst}
+use Rattle.arena_list.specs.Rule.Views.{first_hand, HasSeenOwn}
+use Rattle.arena_list.specs.Marks.OfParts.{marks}
+use Rattle.arena_list.specs.Calls.Seats.{view, callers_of, SameList, IsHome}
+use Rattle.arena_list.specs.Closing.Closed.{AreAll}
+use Rattle.arena_list.proofs.Words.Few.{or_at, at_mapped}
+use Rattle.arena_list.proofs.Words.Lists.{at_below, at_there, at_end, same_elements, all_kept}
+use Rattle.arena_list.proofs.Steps.Seats.{at_append}
+use Rattle.arena_list.proofs.Rule.Opening.{has_at}
+use Rattle.arena_list.proofs.Calls.SeatFacts.{seen_own}
 
 -- spare entries for callers 4, 7, 10 and on, in slots 0, 1, 2 and on
 pub record AreSpares {V : Type 0} (m : Meter V) (spare : List (Entry V)) (callers : List ℕ) (n : ℕ) : Type 0 where

@@ -3,14 +3,14 @@ ghost use Rattle.std.specs.Prelude.{◌≡◌, ℕ, ◌+◌, ◌*◌, ◌<◌, �
 ghost use Rattle.std.specs.Option.{ForSome};
 ghost use mathlib.Core.Option.{some};
 ghost use lib.ListN.{get_elem?};
-ghost use Rattle.arena_list.specs.Core.{slot_count};
-ghost use Rattle.arena_list.specs.declared.view.Hold.TheVariants.{Away};
-ghost use Rattle.arena_list.specs.Founded.{meter, AreFit, Fits};
-ghost use Rattle.arena_list.specs.Marks.{marks};
-ghost use Rattle.arena_list.specs.Views.{who, mine, spare, out, shown};
-ghost use Rattle.arena_list.specs.After.{used_now};
-ghost use Rattle.arena_list.specs.Seats.{view, life_of, callers_of, wards_of, IsSeatOf, SameList, IsAmong, HasValue};
-ghost use Rattle.arena_list.specs.Closed.{Rested, IsJoined, used_sum};
+ghost use Rattle.arena_list.specs.Words.Core.{slot_count};
+ghost use Rattle.arena_list.specs.declared.for_clauses.view.Hold.TheVariants.{Away};
+ghost use Rattle.arena_list.specs.Rule.Founded.{meter, AreFit, Fits};
+ghost use Rattle.arena_list.specs.Marks.OfParts.{marks};
+ghost use Rattle.arena_list.specs.Rule.Views.{who, mine, spare, out, shown};
+ghost use Rattle.arena_list.specs.Steps.After.{used_now};
+ghost use Rattle.arena_list.specs.Calls.Seats.{view, life_of, callers_of, wards_of, IsSeatOf, SameList, IsAmong, HasValue};
+ghost use Rattle.arena_list.specs.Closing.Closed.{Rested, IsJoined, used_sum};
 
 use crate::{ArenaList, Entry, ListSeat};
 use arena_mem::{NoMemory, Part};

@@ -3,18 +3,18 @@ ghost use Rattle.std.specs.Prelude.{◌≡◌, ℕ, ◌+◌, ◌<◌, ◌≤◌,
 ghost use Rattle.std.specs.Slots.{slots_items, slots_filled, slots_len, IsFull};
 ghost use mathlib.Core.Option.{some};
 ghost use lib.ListN.{get_elem?};
-ghost use Rattle.arena_list.specs.Words.{word_count};
-ghost use Rattle.arena_list.specs.Core.{slot_count};
-ghost use Rattle.arena_list.specs.Founded.{meter};
-ghost use Rattle.arena_list.specs.Views.{shown};
-ghost use Rattle.arena_list.specs.Seats.{view, life_of, founding_of, callers_of, wards_of};
-ghost use Rattle.arena_list.specs.Closed.{HasTold, AreAll, AreApart, AreAtMost, AreLinked, AreSpares, used_sum, hand_of, slots_of};
+ghost use Rattle.arena_list.specs.Words.Written.{word_count};
+ghost use Rattle.arena_list.specs.Words.Core.{slot_count};
+ghost use Rattle.arena_list.specs.Rule.Founded.{meter};
+ghost use Rattle.arena_list.specs.Rule.Views.{shown};
+ghost use Rattle.arena_list.specs.Calls.Seats.{view, life_of, founding_of, callers_of, wards_of};
+ghost use Rattle.arena_list.specs.Closing.Closed.{HasTold, AreAll, AreApart, AreAtMost, AreLinked, AreSpares, used_sum, hand_of, slots_of};
 
 use crate::collect::{place_others, pull_linked, pull_spares};
 use crate::entry::Entry;
 use crate::list::{ArenaList, ListSeat, OwnSeat, Words};
-use crate::plays::Gather;
-use crate::steps::SLOTS;
+use crate::single_steps::SLOTS;
+use crate::step_kinds::Gather;
 use arena_mem::{NoMemory, Part};
 use atomic_table::Closed;
 use std::alloc::Global;

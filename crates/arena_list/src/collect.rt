@@ -3,14 +3,14 @@ ghost use Rattle.std.specs.Prelude.{◌≡◌, ℕ, ◌<◌, ◌≤◌, ◌++◌
 ghost use Rattle.std.specs.Slots.{slots_items, slots_len, IsFull};
 ghost use mathlib.Core.Option.{some};
 ghost use lib.ListN.{get_elem?};
-ghost use Rattle.arena_list.specs.Words.{word_count};
-ghost use Rattle.arena_list.specs.Core.{slot_count};
-ghost use Rattle.arena_list.specs.Founded.{slot, Differ};
-ghost use Rattle.arena_list.specs.Closed.{entry};
-ghost use Rattle.arena_list.specs.Collected.{place_of, AreIn, AreStored, Empties, Fills};
+ghost use Rattle.arena_list.specs.Words.Written.{word_count};
+ghost use Rattle.arena_list.specs.Words.Core.{slot_count};
+ghost use Rattle.arena_list.specs.Rule.Founded.{slot, Differ};
+ghost use Rattle.arena_list.specs.Closing.Closed.{entry};
+ghost use Rattle.arena_list.specs.Closing.Collected.{place_of, AreIn, AreStored, Empties, Fills};
 
 use crate::entry::Entry;
-use crate::steps::{HEAD, NODES, SPAN};
+use crate::single_steps::{HEAD, NODES, SPAN};
 use arena_mem::Part;
 use atomic_table::Closed;
 use std::alloc::Global;

@@ -1,10 +1,10 @@
 //! Laws of the list, each the contract of a function that does nothing.
 ghost use Rattle.std.specs.Prelude.{◌≡◌, ℕ, List};
-ghost use Rattle.arena_list.specs.Core.{Core};
-ghost use Rattle.arena_list.specs.Words.{Show, AreSmall};
+ghost use Rattle.arena_list.specs.Words.Core.{Core};
+ghost use Rattle.arena_list.specs.Words.Written.{Show, AreSmall};
 ghost use Rattle.arena_list.specs.declared.list.ListSeat.{ListSeat};
-ghost use Rattle.arena_list.specs.Founded.{meter};
-ghost use Rattle.arena_list.specs.Seats.{HasValue};
+ghost use Rattle.arena_list.specs.Rule.Founded.{meter};
+ghost use Rattle.arena_list.specs.Calls.Seats.{HasValue};
 
 use arena_mem::Part;
 

@@ -1,11 +1,11 @@
 //! The words with which a list begins.
 ghost use Rattle.std.specs.Prelude.{◌≡◌, ℕ, ◌^◌, ◌<◌, ◌≤◌, length, slice_index};
-ghost use Rattle.arena_list.specs.Words.{word_count};
-ghost use Rattle.arena_list.specs.Core.{slot_count};
-ghost use Rattle.arena_list.specs.Founded.{meter, has, AreFit, IsLaid, with_entry};
+ghost use Rattle.arena_list.specs.Words.Written.{word_count};
+ghost use Rattle.arena_list.specs.Words.Core.{slot_count};
+ghost use Rattle.arena_list.specs.Rule.Founded.{meter, has, AreFit, IsLaid, with_entry};
 
 use crate::entry::Entry;
-use crate::steps::{HEAD, NODES, SLOTS, SPAN, STATES, STRIDE};
+use crate::single_steps::{HEAD, NODES, SLOTS, SPAN, STATES, STRIDE};
 use arena_mem::Part;
 
 /// How many words a list has.

@@ -1,15 +1,15 @@
 //! The list as its callers share it, and the seat with which one of them steps.
 ghost use Rattle.std.specs.Prelude.{◌≡◌, ◌<◌, ◌∷◌, [], length, map};
-ghost use Rattle.arena_list.specs.Words.{word_count};
-ghost use Rattle.arena_list.specs.Core.{slot_count};
-ghost use Rattle.arena_list.specs.Founded.{meter, others_of, slot, Differ};
-ghost use Rattle.arena_list.specs.Marks.{marks};
-ghost use Rattle.arena_list.specs.Steps.{sole, IsSeated};
+ghost use Rattle.arena_list.specs.Words.Written.{word_count};
+ghost use Rattle.arena_list.specs.Words.Core.{slot_count};
+ghost use Rattle.arena_list.specs.Rule.Founded.{meter, others_of, slot, Differ};
+ghost use Rattle.arena_list.specs.Marks.OfParts.{marks};
+ghost use Rattle.arena_list.specs.Steps.Tales.{sole, IsSeated};
 
 use crate::entry::Entry;
-use crate::founding::Founding;
-use crate::mark::Mark;
-use crate::view::View;
+use crate::for_clauses::founding::Founding;
+use crate::for_clauses::mark::Mark;
+use crate::for_clauses::view::View;
 use arena_mem::Part;
 use atomic_table::{Badge, Seat, Shared, Table, TableRule};
 use std::alloc::Global;
@@ -19,8 +19,8 @@ use std::mem::replace;
 pub struct ListRule;
 
 impl<V: Part> TableRule<Option<V>, View<Mark>, Founding<V>> for ListRule {
-    ghost use Rattle.arena_list.specs.Founded.{meter, first_view};
-    ghost use Rattle.arena_list.specs.Marks.{marked_founding, HoldsSeen};
+    ghost use Rattle.arena_list.specs.Rule.Founded.{meter, first_view};
+    ghost use Rattle.arena_list.specs.Marks.OfParts.{marked_founding, HoldsSeen};
 
     ghost holds = { HoldsSeen V.row.coded (meter V.owner_of V.life_of V.used_of) };
 

@@ -1,16 +1,16 @@
 //! A caller adds up what the list has used.
 ghost use Rattle.std.specs.Prelude.{◌≡◌, ◌^◌, ◌<◌, ◌≤◌, slice_index};
-ghost use Rattle.arena_list.specs.Core.{slot_count};
-ghost use Rattle.arena_list.specs.Marks.{marks};
-ghost use Rattle.arena_list.specs.Views.{hand, out};
-ghost use Rattle.arena_list.specs.After.{sized, used_now};
-ghost use Rattle.arena_list.specs.Moments.{SeenSize};
-ghost use Rattle.arena_list.specs.Calls.{HasSummed};
-ghost use Rattle.arena_list.specs.Seats.{view, IsSeatOf, SameList};
+ghost use Rattle.arena_list.specs.Words.Core.{slot_count};
+ghost use Rattle.arena_list.specs.Marks.OfParts.{marks};
+ghost use Rattle.arena_list.specs.Rule.Views.{hand, out};
+ghost use Rattle.arena_list.specs.Steps.After.{sized, used_now};
+ghost use Rattle.arena_list.specs.Steps.Moments.{SeenSize};
+ghost use Rattle.arena_list.specs.Calls.Outcomes.{HasSummed};
+ghost use Rattle.arena_list.specs.Calls.Seats.{view, IsSeatOf, SameList};
 
 use crate::list::{ArenaList, ListSeat, take_up};
-use crate::plays::ReadSize;
-use crate::steps::{SPAN, STATES, STRIDE};
+use crate::single_steps::{SPAN, STATES, STRIDE};
+use crate::step_kinds::ReadSize;
 use arena_mem::Part;
 
 impl<V: Part> ArenaList<V> {

@@ -1,11 +1,11 @@
 //! Worked lists, and lists on many threads.
 ghost use Rattle.std.specs.Prelude.{◌≡◌, ◌≤◌, ◌<◌, [], ◌∷◌, Some, IfOk, All, length};
 ghost use Rattle.std.specs.Thread.{IsSync};
-ghost use Rattle.arena_list.specs.Core.{slot_count};
-ghost use Rattle.arena_list.specs.Founded.{meter, AreFit, Fits};
-ghost use Rattle.arena_list.specs.Views.{mine};
+ghost use Rattle.arena_list.specs.Words.Core.{slot_count};
+ghost use Rattle.arena_list.specs.Rule.Founded.{meter, AreFit, Fits};
+ghost use Rattle.arena_list.specs.Rule.Views.{mine};
 ghost use Rattle.arena_list.specs.contracts.tests.Counter.{the_row};
-ghost use Rattle.arena_list.specs.Seats.{view, callers_of, IsHome, AreHome};
+ghost use Rattle.arena_list.specs.Calls.Seats.{view, callers_of, IsHome, AreHome};
 
 use crate::{ArenaList, Entry, ListSeat};
 use arena_mem::Part;

@@ -6,10 +6,10 @@ use mathlib.Core.Option.{some}
 use mathlib.Core.Logic.{dite}
 use native.Mathlib.Decide.{ℕ_discrete}
 use lib.ListN.{get_elem?}
-use Rattle.arena_list.proofs.Lists.{at_end}
-use Rattle.arena_list.proofs.Gathering.{filled_low}
+use Rattle.arena_list.proofs.Words.Lists.{at_end}
+use Rattle.arena_list.proofs.Closing.Gathering.{filled_low}
 use Rattle.arena_list.proofs.close.empty.Goals as goal
-use Rattle.arena_list.specs.Core.{slot_count}
+use Rattle.arena_list.specs.Words.Core.{slot_count}
 
 pub loop-slot-preserved : goal.loop-slot-preserved
 loop-slot-preserved g c = let i = c.loop-slot.invariant in let t = c.take.ensures in let n : ℕ = c.loop-slot.slot in let low : n < slot_count = c.loop-slot-test.true in let filled = slots_filled c.loop-slot.closed.slots in

@@ -4,7 +4,7 @@ use Rattle.std.specs.Slots.{slots_items, slots_filled, slots_len}
 use mathlib.Core.Option.{some}
 use lib.ListN.{get_elem?}
 use Rattle.arena_list.proofs.close.empty.Given as goal
-use Rattle.arena_list.specs.Core.{slot_count}
+use Rattle.arena_list.specs.Words.Core.{slot_count}
 
 abbrev pub invariant-loop-slot : goal.invariant-loop-slot
 invariant-loop-slot g l = (slots_items l.closed.slots ≡ slots_items l.initial.closed.slots) × (slots_len l.closed.slots ≡ slot_count) × (l.closed.words ≡ l.initial.closed.words) × (length l.parts.items ≡ l.slot) × (slot_count ≤ vec_capacity l.parts)

@@ -1,7 +1,7 @@
 use Rattle.std.proofs.Common.{◌∷◌, [], length, ap, ◌∙◌}
 use lib.ListN.{get_elem?}
-use Rattle.arena_list.proofs.Lists.{at_more}
-use Rattle.arena_list.proofs.Seats.{at_end_of}
+use Rattle.arena_list.proofs.Words.Lists.{at_more}
+use Rattle.arena_list.proofs.Steps.Seats.{at_end_of}
 use Rattle.arena_list.proofs.close.free_parts.Goals as goal
 
 pub loop-part-preserved : goal.loop-part-preserved

@@ -1,18 +1,18 @@
 use Rattle.std.proofs.Common.{◌++◌, ◌∷◌, [], length, map, reverse, sym, ap, ◌∙◌, arith, subst}
 use lib.ListN.{get_elem?}
 use Rattle.std.proofs.lemmas.List.{length-append}
-use Rattle.arena_list.specs.Founded.{meter}
-use Rattle.arena_list.specs.Closed.{hand_of, slots_of}
-use Rattle.arena_list.proofs.Seats.{at_end_of}
-use Rattle.arena_list.specs.declared.mark.Mark.{Mark}
-use Rattle.arena_list.specs.declared.view.View.{View}
-use Rattle.arena_list.specs.Marks.{marks, marked_founding}
-use Rattle.arena_list.specs.Steps.{both}
-use Rattle.arena_list.proofs.Badges.{laid_view}
-use Rattle.arena_list.proofs.Marked.{joins_seen}
-use Rattle.arena_list.proofs.Joining.{joins}
-use Rattle.arena_list.proofs.Filling.{no_items}
-use Rattle.arena_list.proofs.Gathering.{IsGathering, slots_few, gather_first, gather_more, all_gone, next_there}
+use Rattle.arena_list.specs.Rule.Founded.{meter}
+use Rattle.arena_list.specs.Closing.Closed.{hand_of, slots_of}
+use Rattle.arena_list.proofs.Steps.Seats.{at_end_of}
+use Rattle.arena_list.specs.declared.for_clauses.mark.Mark.{Mark}
+use Rattle.arena_list.specs.declared.for_clauses.view.View.{View}
+use Rattle.arena_list.specs.Marks.OfParts.{marks, marked_founding}
+use Rattle.arena_list.specs.Steps.Tales.{both}
+use Rattle.arena_list.proofs.Marks.Badges.{laid_view}
+use Rattle.arena_list.proofs.Marks.Marked.{joins_seen}
+use Rattle.arena_list.proofs.Steps.Joining.{joins}
+use Rattle.arena_list.proofs.Making.Filling.{no_items}
+use Rattle.arena_list.proofs.Closing.Gathering.{IsGathering, slots_few, gather_first, gather_more, all_gone, next_there}
 use Rattle.arena_list.proofs.close.gather.Goals as goal
 
 pub loop-next-init : goal.loop-next-init

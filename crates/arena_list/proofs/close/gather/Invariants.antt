@@ -1,5 +1,5 @@
 use Rattle.std.proofs.Common.{◌≡◌, ◌+◌, ◌≤◌, [], length, vec_capacity}
-use Rattle.arena_list.proofs.Gathering.{IsGathering}
+use Rattle.arena_list.proofs.Closing.Gathering.{IsGathering}
 use Rattle.arena_list.proofs.close.gather.Given as goal
 
 abbrev pub invariant-loop-next : goal.invariant-loop-next

@@ -1,6 +1,6 @@
 use Rattle.std.proofs.Common.{arith}
-use Rattle.arena_list.proofs.Filling.{no_items}
-use Rattle.arena_list.proofs.Collecting.{place_starts, place_vacant, place_goes, place_ends}
+use Rattle.arena_list.proofs.Making.Filling.{no_items}
+use Rattle.arena_list.proofs.Closing.Collecting.{place_starts, place_vacant, place_goes, place_ends}
 use Rattle.arena_list.proofs.collect.place_others.Goals as goal
 
 pub loop-other-init : goal.loop-other-init

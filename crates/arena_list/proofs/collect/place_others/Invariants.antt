@@ -1,4 +1,4 @@
-use Rattle.arena_list.proofs.Collecting.{IsPlacing}
+use Rattle.arena_list.proofs.Closing.Collecting.{IsPlacing}
 use Rattle.std.proofs.Common.{length}
 use Rattle.arena_list.proofs.collect.place_others.Given as goal
 

@@ -1,8 +1,8 @@
 use Rattle.std.proofs.Common.{◌≡◌, ◌++◌, ◌∷◌, [], Some, sym, ap, ◌∙◌, arith}
 use Rattle.std.proofs.lemmas.Option.{none-some}
-use Rattle.arena_list.specs.Closed.{entry}
-use Rattle.arena_list.proofs.Lists.{at_below}
-use Rattle.arena_list.proofs.Few.{or_at}
+use Rattle.arena_list.specs.Closing.Closed.{entry}
+use Rattle.arena_list.proofs.Words.Lists.{at_below}
+use Rattle.arena_list.proofs.Words.Few.{or_at}
 use Rattle.arena_list.proofs.collect.pull.Goals as goal
 
 pub index_mut-requires : goal.index_mut-requires

@@ -1,6 +1,6 @@
 use Rattle.std.proofs.Common.{◌∙◌, arith}
 use Rattle.std.specs.Slots.{slots_items}
-use Rattle.arena_list.proofs.Collecting.{take_starts, take_next, take_value, take_goes, take_ends, take_room}
+use Rattle.arena_list.proofs.Closing.Collecting.{take_starts, take_next, take_value, take_goes, take_ends, take_room}
 use Rattle.arena_list.proofs.collect.pull_linked.Goals as goal
 
 pub loop-left-init : goal.loop-left-init

@@ -1,8 +1,8 @@
 use Rattle.std.proofs.Common.{◌≤◌, vec_capacity}
 use Rattle.std.specs.Slots.{slots_items}
-use Rattle.arena_list.specs.Core.{slot_count}
-use Rattle.arena_list.specs.Collected.{AreStored}
-use Rattle.arena_list.proofs.Collecting.{IsTaking}
+use Rattle.arena_list.specs.Words.Core.{slot_count}
+use Rattle.arena_list.specs.Closing.Collected.{AreStored}
+use Rattle.arena_list.proofs.Closing.Collecting.{IsTaking}
 use Rattle.arena_list.proofs.collect.pull_linked.Given as goal
 
 abbrev pub invariant-loop-left : goal.invariant-loop-left

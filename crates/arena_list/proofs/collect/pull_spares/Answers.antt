@@ -1,8 +1,8 @@
 use Rattle.std.proofs.Common.{ℕ, ◌∷◌, [], length, ap, ◌∙◌, arith}
 use Rattle.std.proofs.lemmas.List.{length-append}
-use Rattle.arena_list.proofs.Filling.{no_items}
-use Rattle.arena_list.specs.Closed.{entry}
-use Rattle.arena_list.proofs.Collecting.{pull_starts, spare_next, pull_value, pull_goes, pull_ends}
+use Rattle.arena_list.proofs.Making.Filling.{no_items}
+use Rattle.arena_list.specs.Closing.Closed.{entry}
+use Rattle.arena_list.proofs.Closing.Collecting.{pull_starts, spare_next, pull_value, pull_goes, pull_ends}
 use Rattle.arena_list.proofs.collect.pull_spares.Goals as goal
 
 pub loop-slot-init : goal.loop-slot-init

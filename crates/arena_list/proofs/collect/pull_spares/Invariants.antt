@@ -1,6 +1,6 @@
 use Rattle.std.proofs.Common.{◌≡◌, ◌+◌, ◌≤◌, length, map, reverse, vec_capacity}
-use Rattle.arena_list.specs.Collected.{AreIn, place_of}
-use Rattle.arena_list.proofs.Collecting.{IsPulling}
+use Rattle.arena_list.specs.Closing.Collected.{AreIn, place_of}
+use Rattle.arena_list.proofs.Closing.Collecting.{IsPulling}
 use Rattle.arena_list.proofs.collect.pull_spares.Given as goal
 
 abbrev pub invariant-loop-slot : goal.invariant-loop-slot

@@ -1,7 +1,7 @@
 use Rattle.std.proofs.Common.{None, sym, ◌∙◌, arith}
 use Rattle.std.proofs.lemmas.Option.{none-some}
-use Rattle.arena_list.proofs.Lists.{at_below}
-use Rattle.arena_list.proofs.Few.{or_at}
+use Rattle.arena_list.proofs.Words.Lists.{at_below}
+use Rattle.arena_list.proofs.Words.Few.{or_at}
 use Rattle.arena_list.proofs.collect.put.Goals as goal
 
 pub index_mut-requires : goal.index_mut-requires

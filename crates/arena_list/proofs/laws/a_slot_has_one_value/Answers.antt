@@ -1,6 +1,6 @@
 use Rattle.std.proofs.Common.{sym, ◌∙◌}
-use Rattle.arena_list.specs.Founded.{meter}
-use Rattle.arena_list.proofs.Badges.{one_value}
+use Rattle.arena_list.specs.Rule.Founded.{meter}
+use Rattle.arena_list.proofs.Marks.Badges.{one_value}
 use Rattle.arena_list.proofs.laws.a_slot_has_one_value.Goals as goal
 
 pub returns : goal.returns

@@ -1,5 +1,5 @@
 use Rattle.std.proofs.Common.{◌≡◌, take, false}
-use Rattle.arena_list.specs.Founded.{has}
+use Rattle.arena_list.specs.Rule.Founded.{has}
 use Rattle.arena_list.proofs.laying.is_among.Given as goal
 
 abbrev pub invariant-loop-other : goal.invariant-loop-other

@@ -1,9 +1,9 @@
 use Rattle.std.proofs.Common.{refl, arith, sym, ap, ◌∙◌, ◌≡◌, ℕ, ◌+◌, length, subst, List, map}
 use Rattle.atomic_table.proofs.Lists.{at_index}
-use Rattle.arena_list.specs.Founded.{meter, IsLaidTo, node_of}
-use Rattle.arena_list.specs.Nodes.{before}
-use Rattle.arena_list.proofs.Lists.{at_more}
-use Rattle.arena_list.proofs.FirstWords.{lays_none, lays_more, lays_all, linked_small, linked_differ, linked_before, next_before, all_few, head_fits}
+use Rattle.arena_list.specs.Rule.Founded.{meter, IsLaidTo, node_of}
+use Rattle.arena_list.specs.Words.Nodes.{before}
+use Rattle.arena_list.proofs.Words.Lists.{at_more}
+use Rattle.arena_list.proofs.Making.FirstWords.{lays_none, lays_more, lays_all, linked_small, linked_differ, linked_before, next_before, all_few, head_fits}
 use Rattle.arena_list.proofs.laying.lay.Goals as goal
 
 pub loop-entry-init : goal.loop-entry-init

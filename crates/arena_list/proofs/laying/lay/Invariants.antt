@@ -1,6 +1,6 @@
 use Rattle.std.proofs.Common.{◌≡◌, map}
-use Rattle.arena_list.specs.Nodes.{before}
-use Rattle.arena_list.specs.Founded.{meter, node_of, IsLaidTo}
+use Rattle.arena_list.specs.Words.Nodes.{before}
+use Rattle.arena_list.specs.Rule.Founded.{meter, node_of, IsLaidTo}
 use Rattle.arena_list.proofs.laying.lay.Given as goal
 
 abbrev pub invariant-loop-entry : goal.invariant-loop-entry

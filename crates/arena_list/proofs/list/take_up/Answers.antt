@@ -1,7 +1,7 @@
 use Rattle.std.proofs.Common.{sym, ap, ◌∙◌}
-use Rattle.arena_list.specs.Founded.{meter}
-use Rattle.arena_list.specs.Steps.{sole}
-use Rattle.arena_list.proofs.Badges.{up_is}
+use Rattle.arena_list.specs.Rule.Founded.{meter}
+use Rattle.arena_list.specs.Steps.Tales.{sole}
+use Rattle.arena_list.proofs.Marks.Badges.{up_is}
 use Rattle.arena_list.proofs.list.take_up.Goals as goal
 
 pub into_seat-requires : goal.into_seat-requires

@@ -2,18 +2,18 @@ use Rattle.std.proofs.Common.{arith, sym, ap, ◌∙◌, ◌≡◌, ℕ, ◌+◌
 use mathlib.Core.Option.{some}
 use lib.ListN.{get_elem?}
 use Rattle.atomic_table.specs.Table.{Splits}
-use Rattle.arena_list.specs.declared.mark.Mark.{Mark}
-use Rattle.arena_list.specs.declared.view.View.{View}
-use Rattle.arena_list.specs.Nodes.{head_of}
-use Rattle.arena_list.specs.Founded.{meter, hand_from}
-use Rattle.arena_list.specs.Marks.{marks, marked_founding}
-use Rattle.arena_list.specs.Rule.{Holds}
-use Rattle.arena_list.specs.Steps.{dealt, undealt, sole}
-use Rattle.arena_list.specs.Made.{AreSeats}
-use Rattle.arena_list.proofs.Badges.{lone, laid_view}
-use Rattle.arena_list.proofs.Marked.{fit_marked, splits_seen, nodes_marked, hand_slot, hand_linked}
-use Rattle.arena_list.proofs.Seats.{splits}
-use Rattle.arena_list.proofs.Dealing.{remaining, remaining_next, remaining_some, seated_new, new_view, seats_none, seats_more, at_zero, take_whole}
+use Rattle.arena_list.specs.declared.for_clauses.mark.Mark.{Mark}
+use Rattle.arena_list.specs.declared.for_clauses.view.View.{View}
+use Rattle.arena_list.specs.Words.Nodes.{head_of}
+use Rattle.arena_list.specs.Rule.Founded.{meter, hand_from}
+use Rattle.arena_list.specs.Marks.OfParts.{marks, marked_founding}
+use Rattle.arena_list.specs.Rule.Holds.{Holds}
+use Rattle.arena_list.specs.Steps.Tales.{dealt, undealt, sole}
+use Rattle.arena_list.specs.Making.Made.{AreSeats}
+use Rattle.arena_list.proofs.Marks.Badges.{lone, laid_view}
+use Rattle.arena_list.proofs.Marks.Marked.{fit_marked, splits_seen, nodes_marked, hand_slot, hand_linked}
+use Rattle.arena_list.proofs.Steps.Seats.{splits}
+use Rattle.arena_list.proofs.Making.Dealing.{remaining, remaining_next, remaining_some, seated_new, new_view, seats_none, seats_more, at_zero, take_whole}
 use Rattle.arena_list.proofs.make.deal.Goals as goal
 
 pub loop-caller-init : goal.loop-caller-init

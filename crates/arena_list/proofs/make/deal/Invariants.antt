@@ -1,8 +1,8 @@
 use Rattle.std.proofs.Common.{◌≡◌, ◌≤◌, length, take, [], vec_capacity}
-use Rattle.arena_list.specs.Founded.{meter}
-use Rattle.arena_list.specs.Marks.{marked_founding}
-use Rattle.arena_list.specs.Made.{AreSeats}
-use Rattle.arena_list.proofs.Dealing.{remaining}
+use Rattle.arena_list.specs.Rule.Founded.{meter}
+use Rattle.arena_list.specs.Marks.OfParts.{marked_founding}
+use Rattle.arena_list.specs.Making.Made.{AreSeats}
+use Rattle.arena_list.proofs.Making.Dealing.{remaining}
 use Rattle.arena_list.proofs.make.deal.Given as goal
 
 abbrev pub invariant-loop-caller : goal.invariant-loop-caller

@@ -1,8 +1,8 @@
 use Rattle.std.proofs.Common.{arith, length, vec_capacity, ◌++◌, ◌≤◌, ap, ◌∙◌, ◌∷◌, []}
 use Rattle.std.proofs.lemmas.List.{length-append}
-use Rattle.arena_list.specs.Founded.{meter}
-use Rattle.arena_list.proofs.Filling.{fill_starts, fill_ends, next_fits, next_not_given, fill_same, fill_other, fill_wider, no_items}
-use Rattle.arena_list.proofs.Placing.{seats_given}
+use Rattle.arena_list.specs.Rule.Founded.{meter}
+use Rattle.arena_list.proofs.Making.Filling.{fill_starts, fill_ends, next_fits, next_not_given, fill_same, fill_other, fill_wider, no_items}
+use Rattle.arena_list.proofs.Making.Placing.{seats_given}
 use Rattle.arena_list.proofs.make.fill.Goals as goal
 
 pub loop-entry-init : goal.loop-entry-init

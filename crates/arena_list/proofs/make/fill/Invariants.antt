@@ -1,6 +1,6 @@
 use Rattle.std.proofs.Common.{◌≤◌, length, vec_capacity}
-use Rattle.arena_list.specs.Founded.{meter}
-use Rattle.arena_list.proofs.Filling.{IsFilling}
+use Rattle.arena_list.specs.Rule.Founded.{meter}
+use Rattle.arena_list.proofs.Making.Filling.{IsFilling}
 use Rattle.arena_list.proofs.make.fill.Given as goal
 
 abbrev pub invariant-loop-entry : goal.invariant-loop-entry

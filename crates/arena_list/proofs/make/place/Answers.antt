@@ -1,8 +1,8 @@
 use Rattle.std.proofs.Common.{refl, arith, sym, ap, ◌∙◌, ℕ, ◌<◌, length, subst}
 use lib.ListN.{get_elem?}
 use Rattle.atomic_table.proofs.Lists.{at_index}
-use Rattle.arena_list.specs.Founded.{meter, Fits}
-use Rattle.arena_list.proofs.Placing.{none_seats, places_none, has_own, own_table, own_out, own_more, places_own}
+use Rattle.arena_list.specs.Rule.Founded.{meter, Fits}
+use Rattle.arena_list.proofs.Making.Placing.{none_seats, places_none, has_own, own_table, own_out, own_more, places_own}
 use Rattle.arena_list.proofs.make.place.Goals as goal
 
 pub returns-then-at-len-clause-placed : goal.returns-then-at-len-clause-placed

@@ -1,7 +1,7 @@
 use Rattle.std.proofs.Common.{arith, ap, sym, ◌∙◌, ◌≢◌}
 use Rattle.atomic_table.proofs.Lists.{at_index}
-use Rattle.arena_list.proofs.Lists.{at_one, at_below}
-use Rattle.arena_list.proofs.Searches.{and_here}
+use Rattle.arena_list.proofs.Words.Lists.{at_one, at_below}
+use Rattle.arena_list.proofs.Calls.Searches.{and_here}
 use Rattle.arena_list.proofs.make.seat_of.Goals as goal
 
 pub returns-then-seat-caller-clause-found : goal.returns-then-seat-caller-clause-found

@@ -1,6 +1,6 @@
 use Rattle.std.proofs.Common.{arith, ap, sym, ◌≢◌}
 use Rattle.atomic_table.proofs.Lists.{at_index}
-use Rattle.arena_list.proofs.Searches.{and_here, and_all, entry_first, entry_absent, hand_linked, hand_spare, hand_none}
+use Rattle.arena_list.proofs.Calls.Searches.{and_here, and_all, entry_first, entry_absent, hand_linked, hand_spare, hand_none}
 use Rattle.arena_list.proofs.make.slot_for.Goals as goal
 
 pub returns-then-entry-caller : goal.returns-then-entry-caller

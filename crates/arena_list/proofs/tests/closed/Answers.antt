@@ -1,6 +1,6 @@
 use Rattle.arena_list.specs.contracts.tests.Counter.{the_row}
 use Rattle.arena_list.specs.declared.tests.Counter.{Counter}
-use Rattle.arena_list.specs.Founded.{meter}
+use Rattle.arena_list.specs.Rule.Founded.{meter}
 use Rattle.arena_list.proofs.Worked.{all_back}
 use Rattle.arena_list.proofs.tests.closed.Goals as goal
 

@@ -1,7 +1,7 @@
 use Rattle.std.proofs.Common.{◌≡◌, length}
 use Rattle.std.specs.Prelude.{All}
-use Rattle.arena_list.specs.Founded.{meter}
-use Rattle.arena_list.specs.Seats.{IsHome}
+use Rattle.arena_list.specs.Rule.Founded.{meter}
+use Rattle.arena_list.specs.Calls.Seats.{IsHome}
 use Rattle.arena_list.specs.contracts.tests.Counter.{the_row}
 use Rattle.arena_list.specs.declared.tests.Counter.{Counter}
 use Rattle.arena_list.proofs.tests.side_by_side.Given as goal

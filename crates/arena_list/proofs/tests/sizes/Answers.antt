@@ -3,8 +3,8 @@ use Rattle.arena_list.proofs.Worked.{home_kept}
 use Rattle.std.proofs.lemmas.List.Elements.{All-set}
 use Rattle.arena_list.specs.contracts.tests.Counter.{the_row}
 use Rattle.arena_list.specs.declared.tests.Counter.{Counter}
-use Rattle.arena_list.specs.Founded.{meter}
-use Rattle.arena_list.specs.Seats.{IsHome}
+use Rattle.arena_list.specs.Rule.Founded.{meter}
+use Rattle.arena_list.specs.Calls.Seats.{IsHome}
 use Rattle.arena_list.proofs.tests.sizes.Goals as goal
 
 pub returns-clause-home : goal.returns-clause-home

@@ -1,6 +1,6 @@
 use Rattle.std.proofs.Common.{refl, arith, ◌+◌, ◌*◌, [], ◌∷◌}
 use Rattle.arena_list.specs.declared.tests.Counter.{Counter}
-use Rattle.arena_list.specs.Founded.{meter}
+use Rattle.arena_list.specs.Rule.Founded.{meter}
 use Rattle.arena_list.proofs.Worked.{spares_more, none_beside, one_beside, are_fit}
 use Rattle.arena_list.proofs.tests.spares.Goals as goal
 

@@ -1,4 +1,4 @@
-use Rattle.arena_list.specs.Founded.{meter}
+use Rattle.arena_list.specs.Rule.Founded.{meter}
 use Rattle.arena_list.specs.declared.tests.Counter.{Counter}
 use Rattle.arena_list.proofs.Worked.{AreSpares}
 use Rattle.arena_list.proofs.tests.spares.Given as goal

@@ -1,13 +1,13 @@
 use Rattle.std.proofs.Common.{◌≤◌, ◌++◌, ◌≡◌, length, reverse, sym, ap, subst, ◌∙◌, arith}
 use Rattle.std.proofs.lemmas.List.{length-reverse}
 use Rattle.std.specs.Slots.{slots_items, slots_len, IsFull}
-use Rattle.arena_list.specs.Words.{word_count}
-use Rattle.arena_list.specs.Founded.{meter}
-use Rattle.arena_list.specs.Views.{shown}
-use Rattle.arena_list.specs.Seats.{view, founding_of, wards_of}
-use Rattle.arena_list.specs.Closed.{used_sum, AreApart, AreLinked, AreSpares, slots_of}
-use Rattle.arena_list.proofs.Ending.{slots_within}
-use Rattle.arena_list.proofs.Ended.{others_vacant, ended}
+use Rattle.arena_list.specs.Words.Written.{word_count}
+use Rattle.arena_list.specs.Rule.Founded.{meter}
+use Rattle.arena_list.specs.Rule.Views.{shown}
+use Rattle.arena_list.specs.Calls.Seats.{view, founding_of, wards_of}
+use Rattle.arena_list.specs.Closing.Closed.{used_sum, AreApart, AreLinked, AreSpares, slots_of}
+use Rattle.arena_list.proofs.Closing.Ending.{slots_within}
+use Rattle.arena_list.proofs.Closing.Ended.{others_vacant, ended}
 use Rattle.arena_list.proofs.list.ArenaList.close.Goals as goal
 
 pub place_others-requires-clause-vacant : goal.place_others-requires-clause-vacant

@@ -1,9 +1,9 @@
 use Rattle.std.proofs.Common.{ℕ, refl, arith, sym, subst, ◌∙◌}
-use Rattle.arena_list.specs.Marks.{marks}
-use Rattle.arena_list.specs.Calls.{IsWalking}
-use Rattle.arena_list.specs.Seats.{view}
-use Rattle.arena_list.proofs.SeatFacts.{seen_own}
-use Rattle.arena_list.proofs.Walks.{sees_after, head_parts, walk_starts, walk_node, walk_goes, walk_finds, walk_ends, walk_who}
+use Rattle.arena_list.specs.Marks.OfParts.{marks}
+use Rattle.arena_list.specs.Calls.Outcomes.{IsWalking}
+use Rattle.arena_list.specs.Calls.Seats.{view}
+use Rattle.arena_list.proofs.Calls.SeatFacts.{seen_own}
+use Rattle.arena_list.proofs.Calls.Walks.{sees_after, head_parts, walk_starts, walk_node, walk_goes, walk_finds, walk_ends, walk_who}
 use Rattle.arena_list.proofs.list.ArenaList.find.Goals as goal
 
 pub loop-left-init : goal.loop-left-init

@@ -1,5 +1,5 @@
-use Rattle.arena_list.specs.Calls.{IsWalking}
-use Rattle.arena_list.specs.Seats.{view, SameList}
+use Rattle.arena_list.specs.Calls.Outcomes.{IsWalking}
+use Rattle.arena_list.specs.Calls.Seats.{view, SameList}
 use Rattle.arena_list.proofs.list.ArenaList.find.Given as goal
 
 abbrev pub invariant-loop-left : goal.invariant-loop-left

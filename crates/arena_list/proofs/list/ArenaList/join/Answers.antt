@@ -1,9 +1,9 @@
 use Rattle.std.proofs.Common.{rules, ap, ◌∙◌}
-use Rattle.arena_list.specs.Marks.{marks}
-use Rattle.arena_list.specs.Views.{hand}
-use Rattle.arena_list.specs.Seats.{view}
-use Rattle.arena_list.proofs.SeatFacts.{mine_none, seen_own}
-use Rattle.arena_list.proofs.Walks.{tries_end}
+use Rattle.arena_list.specs.Marks.OfParts.{marks}
+use Rattle.arena_list.specs.Rule.Views.{hand}
+use Rattle.arena_list.specs.Calls.Seats.{view}
+use Rattle.arena_list.proofs.Calls.SeatFacts.{mine_none, seen_own}
+use Rattle.arena_list.proofs.Calls.Walks.{tries_end}
 use Rattle.arena_list.proofs.list.ArenaList.join.Goals as goal
 
 pub returns-clause-joined : goal.returns-clause-joined

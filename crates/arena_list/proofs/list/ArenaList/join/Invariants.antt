@@ -1,7 +1,7 @@
 use Rattle.std.proofs.Common.{◌-◌, length}
-use Rattle.arena_list.specs.Core.{slot_count}
-use Rattle.arena_list.specs.Calls.{HasTried}
-use Rattle.arena_list.specs.Seats.{view, SameList}
+use Rattle.arena_list.specs.Words.Core.{slot_count}
+use Rattle.arena_list.specs.Calls.Outcomes.{HasTried}
+use Rattle.arena_list.specs.Calls.Seats.{view, SameList}
 use Rattle.arena_list.proofs.list.ArenaList.join.Given as goal
 
 abbrev pub invariant-loop : goal.invariant-loop

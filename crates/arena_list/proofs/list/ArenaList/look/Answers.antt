@@ -1,13 +1,13 @@
 use Rattle.std.proofs.Common.{rules, ap, []}
 use mathlib.Core.Option.{none}
 use Rattle.atomic_table.specs.Table.{step}
-use Rattle.arena_list.specs.Founded.{meter}
-use Rattle.arena_list.specs.Marks.{marks, marked_founding}
-use Rattle.arena_list.specs.Seats.{view}
-use Rattle.arena_list.specs.Steps.{saw_head}
-use Rattle.arena_list.proofs.Badges.{up, allows, tells, told, no_slot, lone, seated_laid, seen}
-use Rattle.arena_list.proofs.Keeps.{looks}
-use Rattle.arena_list.proofs.SeatFacts.{seated_look}
+use Rattle.arena_list.specs.Rule.Founded.{meter}
+use Rattle.arena_list.specs.Marks.OfParts.{marks, marked_founding}
+use Rattle.arena_list.specs.Calls.Seats.{view}
+use Rattle.arena_list.specs.Steps.Tales.{saw_head}
+use Rattle.arena_list.proofs.Marks.Badges.{up, allows, tells, told, no_slot, lone, seated_laid, seen}
+use Rattle.arena_list.proofs.Steps.Keeps.{looks}
+use Rattle.arena_list.proofs.Calls.SeatFacts.{seated_look}
 use Rattle.arena_list.proofs.list.ArenaList.look.Goals as goal
 
 pub load-seat-requires : goal.load-seat-requires

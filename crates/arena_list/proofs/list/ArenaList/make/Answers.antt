@@ -1,9 +1,9 @@
 use Rattle.std.proofs.Common.{refl, arith, sym, ap, ◌∙◌, ◌++◌, length, subst}
-use Rattle.arena_list.specs.declared.founding.Founding.{Founding}
-use Rattle.arena_list.specs.Founded.{meter, AreFit}
-use Rattle.arena_list.proofs.Marked.{opens_seen}
-use Rattle.arena_list.proofs.Filling.{no_other_spare, spare_seated}
-use Rattle.arena_list.proofs.Making.{fit_as, laid_as, none_yet, in_order, are_first, others_apart}
+use Rattle.arena_list.specs.declared.for_clauses.founding.Founding.{Founding}
+use Rattle.arena_list.specs.Rule.Founded.{meter, AreFit}
+use Rattle.arena_list.proofs.Marks.Marked.{opens_seen}
+use Rattle.arena_list.proofs.Making.Filling.{no_other_spare, spare_seated}
+use Rattle.arena_list.proofs.Making.FirstSeats.{fit_as, laid_as, none_yet, in_order, are_first, others_apart}
 use Rattle.arena_list.proofs.list.ArenaList.make.Goals as goal
 
 pub vacant-requires : goal.vacant-requires

@@ -1,13 +1,13 @@
 use Rattle.std.proofs.Common.{rules, ap, arith, [], ◌+◌}
 use mathlib.Core.Option.{none}
 use Rattle.atomic_table.specs.Table.{step}
-use Rattle.arena_list.specs.Founded.{meter}
-use Rattle.arena_list.specs.Marks.{marks, marked_founding}
-use Rattle.arena_list.specs.Seats.{view}
-use Rattle.arena_list.specs.Steps.{saw_node}
-use Rattle.arena_list.proofs.Badges.{up, allows, tells, told, no_slot, lone, seated_laid, seen}
-use Rattle.arena_list.proofs.Keeps.{reads}
-use Rattle.arena_list.proofs.SeatFacts.{seated_count}
+use Rattle.arena_list.specs.Rule.Founded.{meter}
+use Rattle.arena_list.specs.Marks.OfParts.{marks, marked_founding}
+use Rattle.arena_list.specs.Calls.Seats.{view}
+use Rattle.arena_list.specs.Steps.Tales.{saw_node}
+use Rattle.arena_list.proofs.Marks.Badges.{up, allows, tells, told, no_slot, lone, seated_laid, seen}
+use Rattle.arena_list.proofs.Steps.Keeps.{reads}
+use Rattle.arena_list.proofs.Calls.SeatFacts.{seated_count}
 use Rattle.arena_list.proofs.list.ArenaList.read_node.Goals as goal
 
 pub load-node-requires : goal.load-node-requires

@@ -2,12 +2,12 @@ use Rattle.std.proofs.Common.{rules, ap, arith, [], ◌+◌, ◌*◌, ◌∙◌}
 use Rattle.std.specs.Prelude.{slice_index}
 use mathlib.Core.Option.{none}
 use Rattle.atomic_table.specs.Table.{step}
-use Rattle.arena_list.specs.Founded.{meter}
-use Rattle.arena_list.specs.Marks.{marks, marked_founding}
-use Rattle.arena_list.specs.Seats.{view}
-use Rattle.arena_list.specs.Steps.{saw_size}
-use Rattle.arena_list.proofs.Badges.{up, allows, tells, told, no_slot, lone, seated_laid, seen}
-use Rattle.arena_list.proofs.SeatFacts.{size_step, seated_sized}
+use Rattle.arena_list.specs.Rule.Founded.{meter}
+use Rattle.arena_list.specs.Marks.OfParts.{marks, marked_founding}
+use Rattle.arena_list.specs.Calls.Seats.{view}
+use Rattle.arena_list.specs.Steps.Tales.{saw_size}
+use Rattle.arena_list.proofs.Marks.Badges.{up, allows, tells, told, no_slot, lone, seated_laid, seen}
+use Rattle.arena_list.proofs.Calls.SeatFacts.{size_step, seated_sized}
 use Rattle.arena_list.proofs.list.ArenaList.read_size.Goals as goal
 
 pub load-word-requires : goal.load-word-requires

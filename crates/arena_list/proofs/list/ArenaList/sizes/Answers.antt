@@ -1,9 +1,9 @@
 use Rattle.std.proofs.Common.{refl, arith, subst, ◌∙◌, ◌≡◌, ℕ}
-use Rattle.arena_list.specs.Calls.{IsSumming}
-use Rattle.arena_list.specs.Marks.{marks}
-use Rattle.arena_list.specs.Seats.{view}
-use Rattle.arena_list.proofs.Walks.{sees_after, head_parts}
-use Rattle.arena_list.proofs.Sums.{sum_starts, sum_node, sum_goes, sum_ends}
+use Rattle.arena_list.specs.Calls.Outcomes.{IsSumming}
+use Rattle.arena_list.specs.Marks.OfParts.{marks}
+use Rattle.arena_list.specs.Calls.Seats.{view}
+use Rattle.arena_list.proofs.Calls.Walks.{sees_after, head_parts}
+use Rattle.arena_list.proofs.Calls.Sums.{sum_starts, sum_node, sum_goes, sum_ends}
 use Rattle.arena_list.proofs.list.ArenaList.sizes.Goals as goal
 
 pub loop-left-init : goal.loop-left-init

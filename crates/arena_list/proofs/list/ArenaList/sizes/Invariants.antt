@@ -1,6 +1,6 @@
-use Rattle.arena_list.specs.Marks.{marks}
-use Rattle.arena_list.specs.Calls.{IsSumming}
-use Rattle.arena_list.specs.Seats.{view, SameList}
+use Rattle.arena_list.specs.Marks.OfParts.{marks}
+use Rattle.arena_list.specs.Calls.Outcomes.{IsSumming}
+use Rattle.arena_list.specs.Calls.Seats.{view, SameList}
 use Rattle.arena_list.proofs.list.ArenaList.sizes.Given as goal
 
 abbrev pub invariant-loop-left : goal.invariant-loop-left

@@ -1,16 +1,16 @@
 use Rattle.std.proofs.Common.{rules, arith, refl, sym, ap, subst, ◌∙◌, ◌≡◌, ℕ, ◌*◌, [], ◌∷◌, Some, None}
 use mathlib.Core.Option.{none}
 use Rattle.atomic_table.specs.Table.{step}
-use Rattle.arena_list.specs.declared.mark.Mark.{Mark}
-use Rattle.arena_list.specs.declared.view.Hold.TheVariants.{Moving, Away, Rests}
-use Rattle.arena_list.specs.Founded.{meter}
-use Rattle.arena_list.specs.Marks.{marks, mark, marked_founding}
-use Rattle.arena_list.specs.Moments.{SeenTake}
-use Rattle.arena_list.specs.Seats.{view}
-use Rattle.arena_list.specs.After.{held, used_now}
-use Rattle.arena_list.specs.Steps.{Sat, took, emptied}
-use Rattle.arena_list.proofs.Badges.{up, allows, tells, no_slot, one_full, filled, none_out, lone, seated_laid, laid_view, seen}
-use Rattle.arena_list.proofs.SeatFacts.{take_step, mine_tells, took_out, front, empty_step, emptied_after, same_value, seated_hold}
+use Rattle.arena_list.specs.declared.for_clauses.mark.Mark.{Mark}
+use Rattle.arena_list.specs.declared.for_clauses.view.Hold.TheVariants.{Moving, Away, Rests}
+use Rattle.arena_list.specs.Rule.Founded.{meter}
+use Rattle.arena_list.specs.Marks.OfParts.{marks, mark, marked_founding}
+use Rattle.arena_list.specs.Steps.Moments.{SeenTake}
+use Rattle.arena_list.specs.Calls.Seats.{view}
+use Rattle.arena_list.specs.Steps.After.{held, used_now}
+use Rattle.arena_list.specs.Steps.Tales.{Sat, took, emptied}
+use Rattle.arena_list.proofs.Marks.Badges.{up, allows, tells, no_slot, one_full, filled, none_out, lone, seated_laid, laid_view, seen}
+use Rattle.arena_list.proofs.Calls.SeatFacts.{take_step, mine_tells, took_out, front, empty_step, emptied_after, same_value, seated_hold}
 use Rattle.arena_list.proofs.list.ArenaList.take_slot.Goals as goal
 
 pub swap-requires : goal.swap-requires

@@ -3,17 +3,17 @@ use mathlib.Core.Option.{none}
 use mathlib.Core.Logic.{dite}
 use native.Mathlib.Decide.{ℕ_discrete}
 use prog.Atomic.{either}
-use Rattle.arena_list.specs.declared.mark.Mark.{Mark}
-use Rattle.arena_list.specs.declared.view.View.{View}
-use Rattle.arena_list.specs.Nodes.{Begins}
+use Rattle.arena_list.specs.declared.for_clauses.mark.Mark.{Mark}
+use Rattle.arena_list.specs.declared.for_clauses.view.View.{View}
+use Rattle.arena_list.specs.Words.Nodes.{Begins}
 use Rattle.atomic_table.specs.Table.{step}
-use Rattle.arena_list.specs.Founded.{meter}
-use Rattle.arena_list.specs.Marks.{marks, marked_founding}
-use Rattle.arena_list.specs.Seats.{view}
-use Rattle.arena_list.specs.After.{noted, looked}
-use Rattle.arena_list.specs.Steps.{stored_node, tried_link}
-use Rattle.arena_list.proofs.Badges.{up, allows, tells, no_slot, lone, seated_laid, laid_view, seen}
-use Rattle.arena_list.proofs.SeatFacts.{note_step, link_step, seated_linked, seated_missed}
+use Rattle.arena_list.specs.Rule.Founded.{meter}
+use Rattle.arena_list.specs.Marks.OfParts.{marks, marked_founding}
+use Rattle.arena_list.specs.Calls.Seats.{view}
+use Rattle.arena_list.specs.Steps.After.{noted, looked}
+use Rattle.arena_list.specs.Steps.Tales.{stored_node, tried_link}
+use Rattle.arena_list.proofs.Marks.Badges.{up, allows, tells, no_slot, lone, seated_laid, laid_view, seen}
+use Rattle.arena_list.proofs.Calls.SeatFacts.{note_step, link_step, seated_linked, seated_missed}
 use Rattle.arena_list.proofs.list.ArenaList.try_link.Goals as goal
 
 pub store-requires : goal.store-requires

@@ -1,0 +1,3 @@
+-- What holds between any two steps.
+pub mod Moved
+pub mod Opening

@@ -1,0 +1,3 @@
+-- A list is closed.
+pub mod Closed
+pub mod Collected

@@ -1,0 +1,2 @@
+-- A list is made.
+pub mod Made
