@@ -1,4 +1,3 @@
-mod Ghosts
 pub mod Worked
 pub mod Words
 pub mod Rule

@@ -3,5 +3,4 @@
 
 pub mod founding;
 pub mod mark;
-pub mod told;
 pub mod view;

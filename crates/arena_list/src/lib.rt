@@ -27,7 +27,6 @@ mod tests;
 pub use entry::Entry;
 pub use for_clauses::founding::Founding;
 pub use for_clauses::mark::Mark;
-pub use for_clauses::told::Told;
 pub use for_clauses::view::{Hand, Hold, Node, View};
 pub use laws::{a_slot_has_one_value, words_show_one_list};
 pub use list::{ArenaList, ListRule, ListSeat};

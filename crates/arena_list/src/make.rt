@@ -11,7 +11,6 @@ ghost use Rattle.arena_list.specs.Words.Nodes.{head_of};
 
 use crate::entry::Entry;
 use crate::for_clauses::founding::Founding;
-use crate::for_clauses::told::Told;
 use crate::laying::opening_words;
 use crate::list::{ArenaList, ListSeat, OwnSeat, Words};
 use crate::single_steps::{HEAD, SLOTS};
@@ -19,6 +18,7 @@ use crate::step_kinds::Deal;
 use crate::take_and_give::put;
 use arena_mem::{NoMemory, Part};
 use atomic_table::Table;
+use ghost_list::GhostList;
 use std::alloc::Global;
 
 /// The slot of a caller's linked entry, or else of its spare one, and whether it is linked.
@@ -117,7 +117,7 @@ fn fill<V: Part>(
     words: &Words<V>,
     seats: &mut Vec<ListSeat>,
     mut entries: Vec<Entry<V>>,
-    earlier: &Told<Entry<V>>,
+    earlier: &GhostList<Entry<V>>,
     others: &mut Vec<Entry<V>>,
 )
     requires words { words.now.table_id.words ≡ word_count }
@@ -183,9 +183,9 @@ impl<V: Part> ArenaList<V> {
         let words = opening_words(linked.as_slice(), callers);
         let told = Founding {
             life,
-            linked: Told::of(linked.as_slice()),
-            spare: Told::of(spare.as_slice()),
-            callers: Told::of(callers),
+            linked: GhostList::of(linked.as_slice()),
+            spare: GhostList::of(spare.as_slice()),
+            callers: GhostList::of(callers),
         };
         let Ok((table, first)) = Table::vacant(alloc, &words, SLOTS, &told) else {
             others.destroy_empty();
@@ -203,7 +203,7 @@ impl<V: Part> ArenaList<V> {
             &mut seats,
         );
         let (none, _) = linked.as_slice().split_at(0);
-        let none = Told::of(none);
+        let none = GhostList::of(none);
         fill(shared, &mut seats, spare, &none, &mut others);
         fill(shared, &mut seats, linked, &told.spare, &mut others);
         others.reverse();

@@ -3,7 +3,7 @@ use Rattle.std.specs.Prelude.{◌≡◌, ◌≢◌, ℕ, ◌+◌, ◌/◌, ◌^�
 use mathlib.Core.Option.{some}
 use lib.ListN.{get_elem?}
 use Rattle.atomic_table.specs.Table.{Me, Step}
-use Rattle.arena_list.specs.declared.for_clauses.told.Told.{Told}
+use Rattle.ghost_list.specs.declared.GhostList.{GhostList}
 use Rattle.arena_list.specs.declared.for_clauses.view.Node.{Node}
 use Rattle.arena_list.specs.declared.for_clauses.view.Hold.TheVariants.{Moving, Away, Rests}
 use Rattle.arena_list.specs.declared.for_clauses.view.Hand.{Hand}
@@ -40,7 +40,7 @@ greater (x ∷ xs) (y ∷ ys) = max x y ∷ greater xs ys
 abbrev pub longer : List Node → List Node → List Node
 longer xs ys = if nat_lt (length xs) (length ys) then ys else xs
 
-abbrev pub untold : {A : Type 0} → Told A
+abbrev pub untold : {A : Type 0} → GhostList A
 untold = record { marker = record {}; items = [] }
 
 -- ---- what a step tells

@@ -1,12 +1,12 @@
 //! What a list is told once, when it is made.
 use crate::entry::Entry;
-use crate::for_clauses::told::Told;
+use ghost_list::GhostList;
 
 /// The life of a list, and the entries and callers that it is made with.
 #[derive(Drop)]
 pub struct Founding<V> {
     pub life: u64,
-    pub linked: Told<Entry<V>>,
-    pub spare: Told<Entry<V>>,
-    pub callers: Told<u32>,
+    pub linked: GhostList<Entry<V>>,
+    pub spare: GhostList<Entry<V>>,
+    pub callers: GhostList<u32>,
 }
