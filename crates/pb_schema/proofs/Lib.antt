@@ -24,12 +24,14 @@ pub mod ShapeLaws
 pub mod AppendLaws
 pub mod KindLaws
 pub mod CostLaws
+pub mod PutLaws
 mod Rows
 mod Examples
 mod TreeExamples
 mod KindExamples
 mod ShapeExamples
 mod CostExamples
+mod PutExamples
 mod FittedExamples
 mod LawfulExamples
 pub mod TickText
