@@ -22,6 +22,7 @@ pub mod Gathering
 pub mod FittedLaws
 pub mod ShapeLaws
 pub mod AppendLaws
+pub mod MovedLaws
 pub mod KindLaws
 pub mod CostLaws
 pub mod PutLaws
