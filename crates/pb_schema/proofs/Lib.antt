@@ -33,6 +33,7 @@ mod KindExamples
 mod ShapeExamples
 mod CostExamples
 mod PutExamples
+mod MergeExamples
 mod FittedExamples
 mod LawfulExamples
 pub mod TickText
