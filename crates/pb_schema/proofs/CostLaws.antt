@@ -14,7 +14,7 @@ use Rattle.pb_schema.specs.declared.schema.Schema.{Schema}
 use Rattle.pb_schema.specs.Kinds.{ValueType, Scalar, Characters, Octets, Nested, value_type_of, slot_of}
 use Rattle.pb_schema.specs.Fits.{takes, fields_of}
 use Rattle.pb_schema.specs.Records.{Record}
-use Rattle.pb_schema.specs.Tree.{ValueWith, Number, Bytes, Sub, HeldWith, Nothing, One, Many, Shape, Message, value_list, held_list, values_in_list}
+use Rattle.pb_schema.specs.Tree.{ValueWith, Number, Bytes, Sub, HeldWith, Nothing, One, Many, Shape, Message, value_list, held_list}
 use Rattle.pb_schema.specs.Empty.{empty_with}
 use Rattle.pb_schema.specs.TreeOf.{Nest, payloads_of, fitting, is_of_oneof, of_oneof, runs, last_of, or_none, single_by, single, values_by, values_in, unless_default, held_by, held_of, records_in}
 use Rattle.pb_schema.specs.ShapeOf.{records_of_all, piece_of, pieces_of, shape_left}
@@ -84,11 +84,11 @@ glued_onto r (part ∷ []) [] = refl
 glued_onto r (part ∷ []) (other ∷ others) = refl
 glued_onto r (part ∷ next ∷ parts) others = refl
 
-abbrev IsSomeList : List (List Record) → Type 0
+abbrev pub IsSomeList : List (List Record) → Type 0
 IsSomeList [] = ⊥
 IsSomeList (part ∷ parts) = Unit {0}
 
-split_some : (test : Record → Bool) (rs : List Record) → IsSomeList (slice_split test rs)
+pub split_some : (test : Record → Bool) (rs : List Record) → IsSomeList (slice_split test rs)
 split_some test [] = tt
 split_some test (r ∷ rs) = pick (test r) (split_some test rs)
   where

@@ -22,14 +22,18 @@ pub mod Gathering
 pub mod FittedLaws
 pub mod ShapeLaws
 pub mod AppendLaws
+pub mod MovedLaws
 pub mod KindLaws
 pub mod CostLaws
+pub mod PutLaws
 mod Rows
 mod Examples
 mod TreeExamples
 mod KindExamples
 mod ShapeExamples
 mod CostExamples
+mod PutExamples
+mod MergeExamples
 mod FittedExamples
 mod LawfulExamples
 pub mod TickText

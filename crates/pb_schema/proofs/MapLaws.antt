@@ -66,7 +66,7 @@ mutual
 
 -- MERGING
 
-joined_map : {U V : Type 0} (f : U → V) (xs ys : ValueListWith U) → values_map f (joined xs ys) ≡ joined (values_map f xs) (values_map f ys)
+pub joined_map : {U V : Type 0} (f : U → V) (xs ys : ValueListWith U) → values_map f (joined xs ys) ≡ joined (values_map f xs) (values_map f ys)
 joined_map f NoValues ys = refl
 joined_map f (ValueAnd x xs) ys = ap (λ rest. ValueAnd (value_map f x) rest) (joined_map f xs ys)
 

@@ -45,7 +45,7 @@ single_map f schema left nest other agree repeated Octets rs p = last_map f (λ 
 single_map f schema left nest other agree repeated (Nested type_no) [] p = refl
 single_map f schema left nest other agree repeated (Nested type_no) (r ∷ rs) p = ap (λ t. One (Sub t)) (agree type_no r.payload (payloads_of rs) (messages_fine schema left repeated type_no (r ∷ rs) p))
 
-numbers_map : {U V : Type 0} (f : U → V) (coding : Coding) (es : List (List ℕ)) → map (value_map f) (map (λ s. Number (pattern_in coding s)) es) ≡ map (λ s. Number (pattern_in coding s)) es
+pub numbers_map : {U V : Type 0} (f : U → V) (coding : Coding) (es : List (List ℕ)) → map (value_map f) (map (λ s. Number (pattern_in coding s)) es) ≡ map (λ s. Number (pattern_in coding s)) es
 numbers_map f coding [] = refl
 numbers_map f coding (e ∷ es) = ap (λ vs. Number (pattern_in coding e) ∷ vs) (numbers_map f coding es)
 
@@ -55,7 +55,7 @@ record_map f schema left nest other agree repeated Characters r p = refl
 record_map f schema left nest other agree repeated Octets r p = refl
 record_map f schema left nest other agree repeated (Nested type_no) r p = ap (λ t. Sub t ∷ []) (agree type_no r.payload [] (messages_fine schema left repeated type_no (r ∷ []) (p, tt)))
 
-list_map : {U V : Type 0} (f : U → V) (vs : List (ValueWith U)) → values_map f (value_list vs) ≡ value_list (map (value_map f) vs)
+pub list_map : {U V : Type 0} (f : U → V) (vs : List (ValueWith U)) → values_map f (value_list vs) ≡ value_list (map (value_map f) vs)
 list_map f [] = refl
 list_map f (v ∷ vs) = ap (ValueAnd (value_map f v)) (list_map f vs)
 
@@ -66,7 +66,7 @@ all_map f schema left nest other agree field (r ∷ rs) p =
     ∙ (ap (λ vs. vs ++ map (value_map f) (flat_map (values_in schema nest field) rs)) (record_map f schema left nest other agree (is_repeated field.card) (value_type_of field.kind) r p.0)
     ∙ ap (λ vs. values_in schema other field r ++ vs) (all_map f schema left nest other agree field rs p.1))
 
-default_map : {U V : Type 0} (f : U → V) (held : HeldWith U) → held_map f (unless_default held) ≡ unless_default (held_map f held)
+pub default_map : {U V : Type 0} (f : U → V) (held : HeldWith U) → held_map f (unless_default held) ≡ unless_default (held_map f held)
 default_map f Nothing = refl
 default_map f (One (Number zero)) = refl
 default_map f (One (Number (suc n))) = refl
@@ -117,7 +117,7 @@ records_concat schema left fields (s ∷ more) p =
     ∙ ap (λ rs. records_in left s ++ rs) (sym (sound_records schema left fields (concat more) rest) ∙ records_concat schema left fields more p.1))
 
 -- and their pieces joined the unknown bytes of all records
-piece_concat : (s : List ℕ) → concat (piece s) ≡ s
+pub piece_concat : (s : List ℕ) → concat (piece s) ≡ s
 piece_concat [] = refl
 piece_concat (b ∷ s) = append-nil (b ∷ s)
 

@@ -56,7 +56,7 @@ held_wire schema left fields at s form whole e other = cases (eqb form.wire 3) r
         let wire = closed_wire _ (sym (ap (if_start schema (deeper_left schema left) fields at s form) start) ∙ e) in
         absurd (other (sym wire ∙ eqb-true form.wire 3 start))
 
-record_holds : (schema : Schema) (left : ℕ) (fields : List FieldType) (at : ℕ) (s : List ℕ) (form whole : Form) → read_held schema (deeper_left schema left) fields at s form ≡ Ok whole → Holds schema left fields (record_of whole s)
+pub record_holds : (schema : Schema) (left : ℕ) (fields : List FieldType) (at : ℕ) (s : List ℕ) (form whole : Form) → read_held schema (deeper_left schema left) fields at s form ≡ Ok whole → Holds schema left fields (record_of whole s)
 record_holds schema left fields at s form whole e = λ other.
     let plain = held_wire schema left fields at s form whole e other in
     let parts = held_holds schema left fields at s form whole (eqb form.wire 3) (eqb form.wire 4) refl refl e in

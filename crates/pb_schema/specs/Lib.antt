@@ -19,6 +19,7 @@ pub mod Text
 pub mod Depth
 pub mod Units
 pub mod Merge
+pub mod Put
 pub mod HeldAt
 pub mod Payloads
 pub mod Meter

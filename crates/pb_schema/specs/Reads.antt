@@ -1,6 +1,6 @@
 -- What reading bytes gives: a value, or the first fault. A fault has its kind and the byte where it stands, counted
 -- from the start of the frame's payload.
-use Rattle.std.specs.Prelude.{ℕ, Result, Ok, Err, Option, None, Some}
+use Rattle.std.specs.Prelude.{◌+◌, ℕ, Result, Ok, Err, Option, None, Some}
 use Rattle.pb_schema.specs.declared.wire_fault.WireKind.{WireKind}
 use Rattle.pb_schema.specs.declared.wire_fault.WireFault.{WireFault}
 
@@ -27,3 +27,7 @@ value_read (Err e) = None
 abbrev pub fault_read : {A : Type 0} → Result A WireFault → Option WireFault
 fault_read (Ok x) = None
 fault_read (Err e) = Some e
+
+-- the fault of bytes that stand so many bytes later
+abbrev pub moved : ℕ → WireFault → WireFault
+moved n d = record d { byte = n + d.byte }

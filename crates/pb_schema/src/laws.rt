@@ -199,7 +199,9 @@ pub fn later_payloads_count_more()
     ensures cleanups { GrowsInParts cleanups }
 {}
 
-/// Merging the empty message of a type changes no message of that type, on either side.
+/// Merging the empty message of a type changes no message of that type, on either side. Of three messages it matters which
+/// two are merged first, though: where the one in the middle sets another member of a oneof than the other two, merging
+/// from the left keeps the last one's message alone, and from the right it keeps the first and the last merged.
 pub fn empty_merges_to_the_same()
     ensures into { (schema : Schema) (type_no : ℕ) (t : Tree) → Fitted schema type_no t
         → merge_of schema type_no (empty schema type_no) t ≡ t }

@@ -14,6 +14,7 @@ mod kind;
 mod laws;
 mod lists;
 mod schema;
+mod step_laws;
 mod wire_fault;
 
 pub use kind::{Card, FieldType, Kind};
@@ -27,6 +28,7 @@ pub use laws::{
 pub use lists::{ByteList, FieldList, Name};
 pub use no_memory::NoMemory;
 pub use schema::{MessageType, Schema, TypeList};
+pub use step_laws::{first_fault, one_record_more};
 pub use wire_fault::{WireFault, WireKind};
 
 #[cfg(test)]

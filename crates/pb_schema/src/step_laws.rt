@@ -1,0 +1,52 @@
+//! Laws of reading step by step, each the contract of a function that does nothing: one record or one payload more in
+//! a message that is there, and the first fault of bytes that go on.
+ghost use Rattle.std.specs.Prelude.{◌≡◌, ◌≢◌, ◌↔◌, ℕ, ◌-◌, List, [], ◌∷◌, ◌++◌, length, IsSome, None, Some, Err};
+ghost use Rattle.std.specs.Option.{option_map};
+ghost use Rattle.std.specs.List.{concat};
+ghost use Rattle.pb_schema.specs.declared.schema.Schema.{Schema};
+ghost use Rattle.pb_schema.specs.declared.wire_fault.WireFault.{WireFault};
+ghost use Rattle.pb_schema.specs.Reads.{moved};
+ghost use Rattle.pb_schema.specs.Fits.{fields_of};
+ghost use Rattle.pb_schema.specs.Walk.{record_left};
+ghost use Rattle.pb_schema.specs.Fault.{fault_of, most_levels};
+ghost use Rattle.pb_schema.specs.Tree.{Tree, Shape, tree_map};
+ghost use Rattle.pb_schema.specs.Empty.{empty_with};
+ghost use Rattle.pb_schema.specs.TreeOf.{tree_of};
+ghost use Rattle.pb_schema.specs.ShapeOf.{shape_of};
+ghost use Rattle.pb_schema.specs.Lawful.{Lawful};
+ghost use Rattle.pb_schema.specs.Put.{shape_read, tree_read};
+
+/// The shape of payloads and one more is the shape of those with the records of that one put into it, one after another,
+/// and that of no payload is the empty message: for any bytes, at any type. With pieces joined reading into a shape is
+/// reading into a tree; so the tree of bytes with more bytes behind them is the tree of the first with the records of the
+/// others put into it, by a lawful schema and where both have a tree.
+pub fn one_record_more()
+    ensures shapes { (schema : Schema) (type_no : ℕ) (payloads : List (List ℕ)) (payload : List ℕ)
+        → shape_of schema type_no (payloads ++ (payload ∷ []))
+        ≡ shape_read schema type_no (shape_of schema type_no payloads) payload }
+    ensures none { (schema : Schema) (type_no : ℕ)
+        → shape_of schema type_no [] ≡ empty_with [] (fields_of schema type_no) }
+    ensures joined { (schema : Schema) (type_no : ℕ) (shape : Shape) (payload : List ℕ)
+        → tree_map concat (shape_read schema type_no shape payload)
+        ≡ tree_read schema type_no (tree_map concat shape) payload }
+    ensures trees { (schema : Schema) (type_no : ℕ) (x y : List ℕ) (t : Tree) → Lawful schema
+        → tree_of schema type_no x ≡ Some t → IsSome (tree_of schema type_no (x ++ y))
+        → tree_of schema type_no (x ++ y) ≡ Some (tree_read schema type_no t y) }
+{}
+
+/// Bytes that begin with records without a fault have the fault of the rest, moved by as many bytes; and where the record
+/// at the front has a fault, of its form, its depth or its contents, the bytes have that. So bytes have a fault exactly
+/// where such records stand in front of a record that has it.
+pub fn first_fault()
+    ensures behind { (schema : Schema) (type_no depth : ℕ) (x y : List ℕ) → fault_of schema type_no depth x ≡ None
+        → fault_of schema type_no depth (x ++ y)
+        ≡ option_map (moved (length x)) (fault_of schema type_no depth y) }
+    ensures head { (schema : Schema) (type_no depth : ℕ) (s : List ℕ) (fault : WireFault) → s ≢ []
+        → record_left schema (most_levels - depth) (fields_of schema type_no) 0 s ≡ Err fault
+        → fault_of schema type_no depth s ≡ Some fault }
+    ensures exact { (schema : Schema) (type_no depth : ℕ) (s : List ℕ) (fault : WireFault)
+        → (fault_of schema type_no depth s ≡ Some fault)
+        ↔ ((x : List ℕ) × (y : List ℕ) × (own : WireFault) × (s ≡ x ++ y) × (fault_of schema type_no depth x ≡ None)
+        × (y ≢ []) × (record_left schema (most_levels - depth) (fields_of schema type_no) 0 y ≡ Err own)
+        × (fault ≡ moved (length x) own)) }
+{}
