@@ -23,6 +23,7 @@ pub mod FittedLaws
 pub mod ShapeLaws
 pub mod AppendLaws
 pub mod MovedLaws
+pub mod PrefixLaws
 pub mod KindLaws
 pub mod CostLaws
 pub mod PutLaws

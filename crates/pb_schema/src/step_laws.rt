@@ -1,10 +1,11 @@
 //! Laws of reading step by step, each the contract of a function that does nothing: one record or one payload more in
 //! a message that is there, and the first fault of bytes that go on.
-ghost use Rattle.std.specs.Prelude.{◌≡◌, ◌≢◌, ◌↔◌, ℕ, ◌-◌, List, [], ◌∷◌, ◌++◌, length, IsSome, None, Some, Err};
+ghost use Rattle.std.specs.Prelude.{◌≡◌, ◌≢◌, ◌↔◌, ◌⊎◌, ℕ, ◌-◌, List, [], ◌∷◌, ◌++◌, length, IsSome, None, Some, Err};
 ghost use Rattle.std.specs.Option.{option_map};
 ghost use Rattle.std.specs.List.{concat};
 ghost use Rattle.pb_schema.specs.declared.schema.Schema.{Schema};
 ghost use Rattle.pb_schema.specs.declared.wire_fault.WireFault.{WireFault};
+ghost use Rattle.pb_schema.specs.declared.wire_fault.WireKind.TheVariants.{Cut};
 ghost use Rattle.pb_schema.specs.Reads.{moved};
 ghost use Rattle.pb_schema.specs.Fits.{fields_of};
 ghost use Rattle.pb_schema.specs.Walk.{record_left};
@@ -49,4 +50,11 @@ pub fn first_fault()
         ↔ ((x : List ℕ) × (y : List ℕ) × (own : WireFault) × (s ≡ x ++ y) × (fault_of schema type_no depth x ≡ None)
         × (y ≢ []) × (record_left schema (most_levels - depth) (fields_of schema type_no) 0 y ≡ Err own)
         × (fault ≡ moved (length x) own)) }
+{}
+
+/// A front of bytes without a fault has no fault, or is cut.
+pub fn a_prefix_is_sound_or_cut()
+    ensures { (schema : Schema) (type_no depth : ℕ) (x y : List ℕ) → fault_of schema type_no depth (x ++ y) ≡ None
+        → (fault_of schema type_no depth x ≡ None)
+        ⊎ ((byte : ℕ) × (fault_of schema type_no depth x ≡ Some (record { kind = Cut; byte = byte }))) }
 {}
