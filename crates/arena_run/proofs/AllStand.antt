@@ -2,19 +2,21 @@
 use Rattle.std.proofs.Common.{◌≡◌, ◌+◌, ◌<◌, ◌≤◌, ℕ, zero, suc, List, [], ◌∷◌, ◌++◌, length, get_or, take, drop, refl, sym, ap, ◌∙◌, subst, append_assoc, append-nil, take-append-drop, length-append, arith}
 use Rattle.std.proofs.lemmas.List.Concat.{flat_map-append}
 use Rattle.std.proofs.lemmas.List.{take_all}
+use Rattle.std.proofs.lemmas.List.Sums.{sum_by-append}
 use Rattle.std.specs.List.{AllByRecursion}
 use Rattle.arena_mem.specs.declared.place.Place.{Place}
 use Rattle.arena_mem.specs.Places.{Places, Buffers, IsLive, KeepsRest, KeepsBuffers}
 use Rattle.pb_schema.specs.Tree.{Tree}
-use Rattle.arena_run.specs.Stands.{Foot, InPlace, Stands, AllStand, StandApart, IsMadeAnew, tick, how_many, EachTwo, Differ}
-use Rattle.arena_run.specs.Written.{frame_of, output_of}
+use Rattle.arena_run.specs.Stands.{Foot, InPlace, Stands, AllStand, StandApart, foot_count, StandAlone, IsMadeAnew, tick, how_many, EachTwo, Differ}
+use Rattle.pb_schema.specs.Builtin.{builtin}
+use Rattle.pb_schema.specs.Payloads.{framed_text, framed_texts}
 use Rattle.arena_run.proofs.Feet.{IsThere, all_join, each_join}
-use Rattle.arena_run.proofs.Messages.{stands_tick, stands_kept, stands_there}
+use Rattle.arena_run.proofs.Messages.{stands_tick, stands_kept, stands_there, feet_counted}
 
 -- ONE OF THEM
 
-pub output_parts : (trees : List Tree) (i : ℕ) → output_of trees ≡ output_of (take i trees) ++ output_of (drop i trees)
-output_parts trees i = ap output_of (sym (take-append-drop i trees)) ∙ flat_map-append frame_of (take i trees) (drop i trees)
+pub output_parts : (trees : List Tree) (i : ℕ) → framed_texts builtin 0 trees ≡ framed_texts builtin 0 (take i trees) ++ framed_texts builtin 0 (drop i trees)
+output_parts trees i = ap (framed_texts builtin 0) (sym (take-append-drop i trees)) ∙ flat_map-append (framed_text builtin 0) (take i trees) (drop i trees)
 
 -- one message of them, with its number and unknown bytes, and what the trees up to it write
 pub record StandsAt (places : Places) (buffers : Buffers) (trees : List Tree) (p : Place) (i : ℕ) : Type 0 where
@@ -22,7 +24,7 @@ pub record StandsAt (places : Places) (buffers : Buffers) (trees : List Tree) (p
   pub unknown : List ℕ
   pub own : List Foot
   pub stands : Stands places buffers p (tick value unknown) own
-  pub output : output_of (take (i + 1) trees) ≡ output_of (take i trees) ++ frame_of (tick value unknown)
+  pub output : framed_texts builtin 0 (take (i + 1) trees) ≡ framed_texts builtin 0 (take i trees) ++ framed_text builtin 0 (tick value unknown)
 
 first_at : (places : Places) (buffers : Buffers) (trees : List Tree) (tree : Tree) (p : Place) (own : List Foot) → Stands places buffers p tree own → StandsAt places buffers (tree ∷ trees) p 0
 first_at places buffers trees tree p own stands =
@@ -32,7 +34,7 @@ first_at places buffers trees tree p own stands =
       unknown = it.unknown;
       own = own;
       stands = subst (λ t. Stands places buffers p t own) it.is stands;
-      output = append-nil (frame_of tree) ∙ ap frame_of it.is;
+      output = append-nil (framed_text builtin 0 tree) ∙ ap (framed_text builtin 0) it.is;
     }
 
 later : (places : Places) (buffers : Buffers) (trees : List Tree) (first : Tree) (p : Place) (i : ℕ) → StandsAt places buffers trees p i → StandsAt places buffers (first ∷ trees) p (suc i)
@@ -42,7 +44,7 @@ later places buffers trees first p i at =
       unknown = at.unknown;
       own = at.own;
       stands = at.stands;
-      output = ap (λ k. output_of (take k (first ∷ trees))) (next i) ∙ ap (λ bs. frame_of first ++ bs) at.output ∙ sym (append_assoc (frame_of first) (output_of (take i trees)) (frame_of (tick at.value at.unknown)));
+      output = ap (λ k. framed_texts builtin 0 (take k (first ∷ trees))) (next i) ∙ ap (λ bs. framed_text builtin 0 first ++ bs) at.output ∙ sym (append_assoc (framed_text builtin 0 first) (framed_texts builtin 0 (take i trees)) (framed_text builtin 0 (tick at.value at.unknown)));
     }
   where
     next : (n : ℕ) → suc n + 1 ≡ suc (n + 1)
@@ -61,8 +63,8 @@ AllStand-length places buffers (p ∷ ps) [] feet all = absurd all
 AllStand-length places buffers (p ∷ ps) (tree ∷ trees) feet all = ap suc (AllStand-length places buffers ps trees all.1 all.4)
 
 -- behind the last message all of them are written
-pub all_written : (places : Places) (buffers : Buffers) (ps : List Place) (trees : List Tree) (feet : List Foot) (i : ℕ) → length ps ≤ i → AllStand places buffers ps trees feet → output_of (take i trees) ≡ output_of trees
-all_written places buffers ps trees feet i past all = let same = AllStand-length places buffers ps trees feet all in let short : length trees ≤ i = omega arith in ap output_of (take_all i trees short)
+pub all_written : (places : Places) (buffers : Buffers) (ps : List Place) (trees : List Tree) (feet : List Foot) (i : ℕ) → length ps ≤ i → AllStand places buffers ps trees feet → framed_texts builtin 0 (take i trees) ≡ framed_texts builtin 0 trees
+all_written places buffers ps trees feet i past all = let same = AllStand-length places buffers ps trees feet all in let short : length trees ≤ i = omega arith in ap (framed_texts builtin 0) (take_all i trees short)
 
 -- IN A MEMORY THAT GROWS
 
@@ -93,18 +95,32 @@ all_stand_more places buffers (q ∷ ps) (t ∷ trees) feet own p tree all stand
 
 -- EACH ON FEET OF ITS OWN
 
-pub apart_none : (others : ℕ) (places : Places) (buffers : Buffers) → how_many places buffers ≡ others → StandApart others places buffers [] []
-apart_none others places buffers only = record { feet = []; stand = refl; once = tt; only = omega (arith, only) }
+apart_none : (places : Places) (buffers : Buffers) → StandApart places buffers [] []
+apart_none places buffers = record { feet = []; stand = refl; once = tt }
 
 -- a message that was made anew stands apart from those before
-pub apart_more : (others : ℕ) (places new_places : Places) (buffers new_buffers : Buffers) (ps : List Place) (trees : List Tree) (p : Place) (tree : Tree) → KeepsRest places new_places → KeepsBuffers buffers new_buffers
-    → StandApart others places buffers ps trees → IsMadeAnew places buffers new_places new_buffers p tree → StandApart others new_places new_buffers (ps ++ p ∷ []) (trees ++ tree ∷ [])
-apart_more others places new_places buffers new_buffers ps trees p tree rest kept apart made = record {
+apart_more : (places new_places : Places) (buffers new_buffers : Buffers) (ps : List Place) (trees : List Tree) (p : Place) (tree : Tree) → KeepsRest places new_places → KeepsBuffers buffers new_buffers
+    → StandApart places buffers ps trees → IsMadeAnew places buffers new_places new_buffers p tree → StandApart new_places new_buffers (ps ++ p ∷ []) (trees ++ tree ∷ [])
+apart_more places new_places buffers new_buffers ps trees p tree rest kept apart made = record {
   feet = apart.feet ++ made.feet;
   stand = all_stand_more new_places new_buffers ps trees apart.feet made.feet p tree (all_stand_kept places new_places buffers new_buffers ps trees apart.feet rest kept apart.stand) made.stands;
   once = each_join places buffers apart.feet made.feet (all_stand_there places buffers ps trees apart.feet apart.stand) made.free apart.once made.once;
-  only = omega (arith, made.counted, apart.only, length-append apart.feet made.feet);
 }
+
+-- AND NOTHING ELSE IS THERE
+
+pub alone_none : (others : ℕ) (places : Places) (buffers : Buffers) → how_many places buffers ≡ others → StandAlone others places buffers [] []
+alone_none others places buffers only = record { apart = apart_none places buffers; only = omega (arith, only) }
+
+pub alone_more : (others : ℕ) (places new_places : Places) (buffers new_buffers : Buffers) (ps : List Place) (trees : List Tree) (p : Place) (tree : Tree) → KeepsRest places new_places → KeepsBuffers buffers new_buffers
+    → StandAlone others places buffers ps trees → IsMadeAnew places buffers new_places new_buffers p tree → StandAlone others new_places new_buffers (ps ++ p ∷ []) (trees ++ tree ∷ [])
+alone_more others places new_places buffers new_buffers ps trees p tree rest kept alone made =
+    let feet = feet_counted new_places new_buffers p tree made.feet made.stands in
+    let all = sum_by-append foot_count trees (tree ∷ []) in
+    record {
+      apart = apart_more places new_places buffers new_buffers ps trees p tree rest kept alone.apart made;
+      only = omega (arith, made.counted, alone.only, feet, all);
+    }
 
 -- what holds of two live or kept feet that differ holds of any two of them
 all_there : (places : Places) (buffers : Buffers) (R : Foot → Foot → Type 0) (x : Foot) (ys : List Foot) → ((a b : Foot) → IsThere places buffers a → IsThere places buffers b → Differ a b → R a b) → IsThere places buffers x

@@ -8,7 +8,7 @@ use Rattle.arena_mem.specs.declared.place.Place.{Place}
 use Rattle.arena_mem.specs.declared.place.Buffer.{Buffer}
 use Rattle.arena_mem.specs.Places.{Places, Buffers, buffer_cmp, replaced, written, splice}
 use Rattle.serial_arena.proofs.Names.{places_total}
-use Rattle.serial_arena.specs.Serial.{SerialState, places_of}
+use Rattle.serial_arena.specs.Serial.{SerialState, places_of, buffers_of}
 
 pub len_placed : (old new : Places) (p : Place) (bytes : List ℕ) → map.get old p ≡ None → new ≡ map.insert old p bytes → map.len new ≡ map.len old + 1
 len_placed old new p bytes free e =
@@ -28,3 +28,6 @@ buffers_total = then_total (on_total (λ b. b.region) nat_cmp_total) (on_total (
 pub len_kept : (old new : Buffers) (b : Buffer) (bytes : List ℕ) → map.get old b ≡ None → new ≡ map.insert old b bytes → map.len new ≡ map.len old + 1
 len_kept old new b bytes free e =
     ap map.len e ∙ map.len-insert buffers_total old b bytes ∙ ap (λ (o : Option (List ℕ)). cond (is_some o) (map.len old) (map.len old + 1)) free
+
+pub unused_keeps_none : (s : SerialState) → s.kept ≡ [] → map.len (buffers_of s) ≡ 0
+unused_keeps_none s e = ap (λ xs. map.len (buffers_of (record s { kept = xs }))) e ∙ map.len-empty _ _

@@ -1,18 +1,20 @@
 -- The first fault of a file, from where it was read to.
 use Rattle.std.proofs.Common.{◌≡◌, ◌⊎◌, ◌^◌, ◌<◌, ◌≤◌, ℕ, zero, suc, Bool, true, false, cond, leb, get_or, List, [], ◌∷◌, length, Option, None, Some, Result, Ok, Err, sym, ap, ◌∙◌, subst, inl, inr, arith}
-use Rattle.std.specs.Prelude.{All, IfOk, IfErr, IfSome, IsSomeAnd}
+use Rattle.std.specs.Prelude.{All, IfOk, IfErr, IfSome, IsSomeAnd, IsErrAnd}
 use Rattle.std.proofs.lemmas.Bool.{cond-true, cond-false, le-leb, lt-leb}
+use Rattle.pb_schema.specs.Builtin.{builtin}
 use Rattle.pb_schema.specs.Frames.{Frames, frames_of}
+use Rattle.pb_schema.specs.Payloads.{trees_of}
 use Rattle.pb_schema.specs.Tree.{Tree}
 use Rattle.pb_schema.proofs.FrameLaws.{frames_found}
 use Rattle.pb_wire.specs.declared.frame_fault.FrameFault.{FrameFault}
 use Rattle.pb_wire.specs.FrameAnswers.{answer_from, answer_of}
 use Rattle.arena_run.specs.declared.fault.Fault.{Fault}
-use Rattle.arena_run.specs.declared.fault.Fault.TheVariants.{NoMemory, Usage, FrameCut, BadFrame, ReadFault, WriteFault, TooLong, NotBuilt}
+use Rattle.arena_run.specs.declared.fault.Fault.TheVariants.{NoMemory, TooLong}
 use Rattle.arena_run.specs.declared.fault.InputKind.TheVariants.{FrameBytes}
 use Rattle.arena_run.specs.Contents.{HasTrees}
-use Rattle.arena_run.specs.Ends.{EndsBy, IsOfFile, IsOfPayloads, result_fault}
-use Rattle.arena_run.specs.Faults.{each_tree, payloads_fault, frames_fault, first_fault, trees_of}
+use Rattle.arena_run.specs.Ends.{last_stage, first_stage, IsRead, EndsBy, IsOfFile, IsOfPayloads, result_fault}
+use Rattle.arena_run.specs.Faults.{payloads_fault, frames_fault, first_fault, trees_in}
 
 -- a file that isn't too long has the fault of its frames
 pub within_limit : (content : List ℕ) → length content ≤ 2 ^ 24 → first_fault content ≡ frames_fault (frames_of content)
@@ -23,28 +25,44 @@ pub above_limit : (content : List ℕ) → 2 ^ 24 < length content → first_fau
 unfolding first_fault
 above_limit content many = cond-false (leb (length content) (2 ^ 24)) _ _ (lt-leb (length content) (2 ^ 24) many)
 
+-- what holds of each fault
+pub each_err : {A : Type 0} (r : Result A Fault) (P Q R : Fault → Type 0) → ((fault : Fault) → P fault → Q fault → R fault) → IfErr r P → IfErr r Q → IfErr r R
+each_err (Ok x) P Q R law p q = tt
+each_err (Err fault) P Q R law p q = law fault p q
+
+pub if_err : {A : Type 0} (r : Result A Fault) (fault : Fault) (P : Fault → Type 0) → IsErrAnd r (λ found. found ≡ fault) → P fault → IfErr r P
+if_err (Ok x) fault P is p = tt
+if_err (Err found) fault P is p = subst P (sym is) p
+
+-- want of memory isn't told of what was read
+not_read : {A : Type 0} (fault : Fault) → fault ≡ NoMemory → IsRead (Some fault) → A
+not_read fault is read = absurd (let told : IsRead (Some NoMemory) = subst (λ f. IsRead (Some f)) is read in omega (arith, told))
+
+-- what was read, and isn't want of memory, has the first fault
+first_is : (fault : Fault) (first : Option Fault) → (fault ≡ NoMemory) ⊎ (first ≡ Some fault) → IsRead (Some fault) → first ≡ Some fault
+first_is fault first (inl is) read = not_read fault is read
+first_is fault first (inr is) read = is
+
 -- a fault of the frames is the first of the file
-pub frames_first : (content : List ℕ) (fault : Fault) → length content ≤ 2 ^ 24 → IsOfFile fault → (fault ≡ ReadFault → ⊥) → (fault ≡ NoMemory) ⊎ (frames_fault (frames_of content) ≡ Some fault) → EndsBy (first_fault content) (Some fault)
-frames_first content NoMemory few kind other found = tt
-frames_first content Usage few kind other found = absurd kind
-frames_first content (FrameCut index) few kind other (inl is) = cc
-frames_first content (FrameCut index) few kind other (inr is) = within_limit content few ∙ is
-frames_first content (BadFrame index fault) few kind other found = absurd kind
-frames_first content ReadFault few kind other found = tt
-frames_first content WriteFault few kind other found = absurd kind
-frames_first content (TooLong which limit) few kind other (inl is) = cc
-frames_first content (TooLong which limit) few kind other (inr is) = within_limit content few ∙ is
-frames_first content NotBuilt few kind other found = absurd kind
+frames_first : (content : List ℕ) (fault : Fault) → length content ≤ 2 ^ 24 → IsOfFile fault → (fault ≡ NoMemory) ⊎ (frames_fault (frames_of content) ≡ Some fault) → EndsBy (first_fault content) (Some fault)
+frames_first content fault few kind found = record {
+  fault = λ read _. within_limit content few ∙ first_is fault (frames_fault (frames_of content)) found read;
+  none = λ parsed. absurd (let before = kind.before in omega (arith, before, parsed));
+}
 
-pub cut_first : {A : Type 0} (r : Result A Fault) (found : Option (List ℕ)) (bytes : List ℕ) → IfSome found (λ content. bytes ≡ content) → length bytes ≤ 2 ^ 24 → IfErr r (λ fault. IsOfFile fault × (fault ≡ ReadFault → ⊥))
-    → IfErr r (λ fault. (fault ≡ NoMemory) ⊎ (frames_fault (frames_of bytes) ≡ Some fault)) → IfErr r (λ fault. IfSome found (λ content. EndsBy (first_fault content) (Some fault)))
-cut_first (Ok x) found bytes same few kind is = tt
-cut_first (Err fault) None bytes same few kind is = tt
-cut_first (Err fault) (Some content) bytes same few kind is = subst (λ s. EndsBy (first_fault s) (Some fault)) same (frames_first bytes fault few kind.0 kind.1 is)
+pub cut_first : (fault : Fault) (found : Option (List ℕ)) (bytes : List ℕ) → IfSome found (λ content. bytes ≡ content) → length bytes ≤ 2 ^ 24 → IsOfFile fault
+    → (fault ≡ NoMemory) ⊎ (frames_fault (frames_of bytes) ≡ Some fault) → IfSome found (λ content. EndsBy (first_fault content) (Some fault))
+cut_first fault None bytes same few kind is = tt
+cut_first fault (Some content) bytes same few kind is = subst (λ s. EndsBy (first_fault s) (Some fault)) same (frames_first bytes fault few kind is)
 
-pub long_first : (found : Option (List ℕ)) → IfSome found (λ content. 2 ^ 24 < length content) → IfSome found (λ content. EndsBy (first_fault content) (Some (TooLong FrameBytes (2 ^ 24))))
-long_first None long = tt
-long_first (Some content) long = above_limit content long
+-- a file that was read up to the limit, and one that wasn't
+pub input_first : (fault : Fault) (found : Option (List ℕ)) → IsOfFile fault → (IsRead (Some fault) → (fault ≡ TooLong FrameBytes (2 ^ 24)) × IfSome found (λ content. 2 ^ 24 < length content))
+    → IfSome found (λ content. EndsBy (first_fault content) (Some fault))
+input_first fault None kind long = tt
+input_first fault (Some content) kind long = record {
+  fault = λ read _. let is = long read in above_limit content is.1 ∙ sym (ap Some is.0);
+  none = λ parsed. absurd (let before = kind.before in omega (arith, before, parsed));
+}
 
 -- THE PAYLOADS
 
@@ -57,40 +75,33 @@ pub payloads_first : (content : List ℕ) (payloads : List (List ℕ)) → IsCut
 payloads_first content payloads cut few =
     within_limit content cut.few_bytes ∙ (ap frames_fault cut.frames ∙ cond-true (leb (length payloads) (2 ^ 20)) _ _ (le-leb (length payloads) (2 ^ 20) few))
 
-trees_in : (content : List ℕ) (payloads : List (List ℕ)) → frames_of content ≡ Ok payloads → trees_of content ≡ each_tree payloads
-unfolding trees_of
-trees_in content payloads e = ap (λ (r : Result (List (List ℕ)) ℕ). elim r as (λ _. Option (List Tree)) [ Ok ps ↦ each_tree ps | Err k ↦ None ]) e
+trees_there : (content : List ℕ) (payloads : List (List ℕ)) → frames_of content ≡ Ok payloads → trees_in content ≡ trees_of builtin 0 payloads
+unfolding trees_in
+trees_there content payloads e = ap (λ (r : Result (List (List ℕ)) ℕ). elim r as (λ _. Option (List Tree)) [ Ok ps ↦ trees_of builtin 0 ps | Err k ↦ None ]) e
 
-pub has_trees : (found : Option (List ℕ)) (payloads : List (List ℕ)) (P : List Tree → Type 0) → IfSome found (λ content. (length content ≤ 2 ^ 24) × (frames_of content ≡ Ok payloads)) → length payloads ≤ 2 ^ 20 → payloads_fault payloads ≡ None → IsSomeAnd (each_tree payloads) P → IfSome found (λ content. HasTrees content P)
-has_trees None payloads P cut few sound trees = tt
-has_trees (Some content) payloads P cut few sound trees = record {
-  sound = payloads_first content payloads (record { few_bytes = cut.0; frames = cut.1 }) few ∙ sound;
-  trees = subst (λ o. IsSomeAnd o P) (sym (trees_in content payloads cut.1)) trees;
+pub has_trees : (content : List ℕ) (payloads : List (List ℕ)) (P : List Tree → Type 0) → IsCut content payloads → length payloads ≤ 2 ^ 20 → payloads_fault payloads ≡ None → IsSomeAnd (trees_of builtin 0 payloads) P → HasTrees content P
+has_trees content payloads P cut few sound trees = record {
+  sound = payloads_first content payloads cut few ∙ sound;
+  trees = subst (λ o. IsSomeAnd o P) (sym (trees_there content payloads cut.frames)) trees;
 }
 
+-- no stage is the first and lies behind the last
+pub first_before_last : (end : Option Fault) → first_stage end ≤ last_stage end
+first_before_last None = omega arith
+first_before_last (Some NoMemory) = omega arith
+first_before_last (Some fault) = omega arith
+
 -- a fault of the payloads is the first of the file
-payload_first : (content : List ℕ) (payloads : List (List ℕ)) (fault : Fault) → IsCut content payloads → length payloads ≤ 2 ^ 20 → IsOfPayloads fault → (fault ≡ NoMemory) ⊎ (payloads_fault payloads ≡ Some fault) → EndsBy (first_fault content) (Some fault)
-payload_first content payloads NoMemory cut few kind is = tt
-payload_first content payloads Usage cut few kind is = absurd kind
-payload_first content payloads (FrameCut index) cut few kind is = absurd kind
-payload_first content payloads (BadFrame index fault) cut few kind (inl is) = cc
-payload_first content payloads (BadFrame index fault) cut few kind (inr is) = payloads_first content payloads cut few ∙ is
-payload_first content payloads ReadFault cut few kind is = absurd kind
-payload_first content payloads WriteFault cut few kind is = absurd kind
-payload_first content payloads (TooLong which limit) cut few kind is = absurd kind
-payload_first content payloads NotBuilt cut few kind is = absurd kind
+pub payload_first : (content : List ℕ) (payloads : List (List ℕ)) (fault : Fault) → IsCut content payloads → length payloads ≤ 2 ^ 20 → IsOfPayloads fault → (fault ≡ NoMemory) ⊎ (payloads_fault payloads ≡ Some fault) → EndsBy (first_fault content) (Some fault)
+payload_first content payloads fault cut few kind found = record {
+  fault = λ read _. payloads_first content payloads cut few ∙ first_is fault (payloads_fault payloads) found read;
+  none = λ parsed. absurd (let first = first_before_last (Some fault) in omega (arith, first, kind, parsed));
+}
 
-pub parsed_first : {A : Type 0} (r : Result A Fault) (found : Option (List ℕ)) (payloads : List (List ℕ)) → IfSome found (λ content. (length content ≤ 2 ^ 24) × (frames_of content ≡ Ok payloads)) → length payloads ≤ 2 ^ 20 → IfErr r IsOfPayloads
-    → IfErr r (λ fault. (fault ≡ NoMemory) ⊎ (payloads_fault payloads ≡ Some fault)) → IfOk r (λ _. payloads_fault payloads ≡ None) → IfSome found (λ content. EndsBy (first_fault content) (result_fault r))
-parsed_first (Ok x) None payloads cut few kind is sound = tt
-parsed_first (Ok x) (Some content) payloads cut few kind is sound = payloads_first content payloads (record { few_bytes = cut.0; frames = cut.1 }) few ∙ sound
-parsed_first (Err fault) None payloads cut few kind is sound = tt
-parsed_first (Err fault) (Some content) payloads cut few kind is sound = payload_first content payloads fault (record { few_bytes = cut.0; frames = cut.1 }) few kind is
-
-pub parsed_trees : {A : Type 0} (r : Result A Fault) (found : Option (List ℕ)) (payloads : List (List ℕ)) (P : A → List Tree → Type 0) → IfSome found (λ content. (length content ≤ 2 ^ 24) × (frames_of content ≡ Ok payloads)) → length payloads ≤ 2 ^ 20
-    → IfOk r (λ _. payloads_fault payloads ≡ None) → IfOk r (λ x. IsSomeAnd (each_tree payloads) (P x)) → IfOk r (λ x. IfSome found (λ content. HasTrees content (P x)))
-parsed_trees (Ok x) found payloads P cut few sound trees = has_trees found payloads (P x) cut few sound trees
-parsed_trees (Err fault) found payloads P cut few sound trees = tt
+pub parsed_first : {A : Type 0} (r : Result A Fault) (content : List ℕ) (payloads : List (List ℕ)) → IsCut content payloads → length payloads ≤ 2 ^ 20 → IfErr r IsOfPayloads
+    → IfErr r (λ fault. (fault ≡ NoMemory) ⊎ (payloads_fault payloads ≡ Some fault)) → IfOk r (λ _. payloads_fault payloads ≡ None) → EndsBy (first_fault content) (result_fault r)
+parsed_first (Ok x) content payloads cut few kind is sound = record { fault = λ _ unparsed. absurd (omega (arith, unparsed)); none = λ _. payloads_first content payloads cut few ∙ sound }
+parsed_first (Err fault) content payloads cut few kind is sound = payload_first content payloads fault cut few kind is
 
 -- the payloads of whole frames are short
 short_at : (payloads : List (List ℕ)) (s : List ℕ) → Frames s payloads → (k : ℕ) (d : List ℕ) → k < length payloads → length (get_or payloads k d) < 2 ^ 31

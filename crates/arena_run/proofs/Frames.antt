@@ -4,13 +4,14 @@ use Rattle.std.proofs.lemmas.List.{set_at, length-take-le, take_more, take_more_
 use Rattle.std.proofs.Math.Seq.{take-set-lt}
 use Rattle.pb_schema.specs.Varint.{varint_of}
 use Rattle.arena_run.specs.Stands.{tick}
-use Rattle.arena_run.specs.Written.{frame_of}
+use Rattle.pb_schema.specs.Builtin.{builtin}
+use Rattle.pb_schema.specs.Payloads.{framed_text, framed_texts}
 use Rattle.arena_run.proofs.Texts.{text_set, frame_short}
 
 -- a byte is left for the prefix, the text goes behind it, and then the prefix is the text's length
 pub prefix_put : (before after : List ℕ) (filled end v : ℕ) → (v ≡ 0 → ⊥) → filled + 12 ≤ length before → filled < end → end ≤ length after
     → take end after ≡ take (filled + 2) (set before (filled + 1) 8) ++ varint_of v
-    → take end (set after filled (end - filled - 1)) ≡ take filled before ++ frame_of (tick v [])
+    → take end (set after filled (end - filled - 1)) ≡ take filled before ++ framed_text builtin 0 (tick v [])
 prefix_put before after filled end v is_set room behind within text_put =
     let was = take filled before in
     let hole = get_or before filled 0 in

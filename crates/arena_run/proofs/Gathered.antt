@@ -3,7 +3,7 @@ use Rattle.std.proofs.Common.{◌≡◌, ℕ, List, [], ◌++◌, Option, None, 
 use Rattle.std.specs.Prelude.{OnErr}
 use Rattle.std.specs.Io.KnownBytes.{Appends, Keeps, append_known}
 use Rattle.std.proofs.KnownBytes.{Appends-trans, Keeps-refl, append_known-grown}
-use Rattle.arena_run.specs.Written.{TookPart, KeepsTaken, Gathers}
+use Rattle.arena_mem.specs.Outside.{TookPart, KeepsTaken, Gathers}
 use Rattle.arena_run.proofs.Taken.{part_handed_over, gathered_more}
 
 KeepsTaken-refl : (a : Option (List ℕ)) → KeepsTaken a a

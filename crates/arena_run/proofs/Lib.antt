@@ -1,6 +1,7 @@
 pub mod Numbers
 pub mod WordForms
 pub mod Firsts
+pub mod CauseLaws
 pub mod Slots
 pub mod Placing
 pub mod Feet
@@ -17,4 +18,3 @@ pub mod Parsing
 pub mod Taken
 pub mod Gathered
 pub mod Counted
-pub mod Unused

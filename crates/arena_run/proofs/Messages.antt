@@ -11,7 +11,7 @@ use Rattle.arena_mem.specs.Places.{Places, Buffers, KeepsRest, KeepsBuffers, spl
 use Rattle.pb_schema.specs.Records.{Record, Records}
 use Rattle.pb_schema.specs.Tree.{Number, Bytes, Sub, Held, Nothing, One, Many, Tree, Message, NoFields, FieldAnd}
 use Rattle.arena_run.specs.Placed.{BeginsWith, IsPlacedAnew}
-use Rattle.arena_run.specs.Stands.{Foot, InPlace, word, place_in, held, tick, HoldsBytes, IsArray, HoldsUnknown, slot_number, IsRecordOf, Stands, IsFree, IsKeptAnew, IsMadeAnew}
+use Rattle.arena_run.specs.Stands.{Foot, InPlace, word, place_in, held, tick, foot_count, HoldsBytes, IsArray, HoldsUnknown, slot_number, IsRecordOf, Stands, IsFree, IsKeptAnew, IsMadeAnew}
 use Rattle.arena_run.proofs.Feet.{IsThere, still_there, free_before, free_differs}
 use Rattle.arena_run.proofs.HeldBytes.{some_weaker, some_kept, is_some_of, bytes_kept, bytes_there}
 use Rattle.arena_run.proofs.Placing.{some_and, some_at}
@@ -113,6 +113,28 @@ stands_there places buffers p tree feet stands = subst (AllByRecursion (IsThere 
     of_record : (found : Option (List ℕ)) → IsSomeAnd found (λ bytes. IsRecordOf places buffers bytes tree stands.behind) → IsSome found × AllByRecursion (IsThere places buffers) stands.behind
     of_record None h = absurd h
     of_record (Some bytes) h = (refl, of_holds (take 24 bytes) h.unknown stands.behind h.holds)
+
+-- as many as its tree says
+pub feet_counted : (places : Places) (buffers : Buffers) (p : Place) (tree : Tree) (feet : List Foot) → Stands places buffers p tree feet → length feet ≡ foot_count tree
+feet_counted places buffers p tree feet stands = ap length stands.feet_are ∙ of_record (map.get places p) stands.there
+  where
+    of_elements : (bytes : List ℕ) (foot : Foot) (found : Option (List ℕ)) → IsSomeAnd found (λ elements. HoldsBytes places buffers (take 24 elements) bytes foot) → 1 ≤ length bytes
+    of_elements bytes foot None h = absurd h
+    of_elements bytes foot (Some elements) h = ⊎_elim (λ short. short.1.some) (λ long. let many = long.1.many in omega arith) h
+
+    of_array : (v : ℕ) (slot unknown : List ℕ) (behind : List Foot) (element : Foot) → IsArray places buffers slot unknown element → behind ≡ InPlace (place_in slot) ∷ element ∷ [] → suc (length behind) ≡ foot_count (tick v unknown)
+    of_array v slot [] behind element array is = absurd (let some = of_elements [] element (map.get places (place_in slot)) array.there in omega arith)
+    of_array v slot (b ∷ unknown) behind element array is = ap (λ (xs : List Foot). suc (length xs)) is
+
+    of_holds : (v : ℕ) (slot unknown : List ℕ) (behind : List Foot) → HoldsUnknown places buffers slot unknown behind → suc (length behind) ≡ foot_count (tick v unknown)
+    of_holds v slot unknown behind holds = ⊎_elim
+        (λ none. ap (λ (xs : List Foot). suc (length xs)) none.2 ∙ ap (λ bytes. foot_count (tick v bytes)) (sym none.1))
+        (λ array. of_array v slot unknown behind array.0 array.1 array.2)
+        holds
+
+    of_record : (found : Option (List ℕ)) → IsSomeAnd found (λ bytes. IsRecordOf places buffers bytes tree stands.behind) → suc (length stands.behind) ≡ foot_count tree
+    of_record None h = absurd h
+    of_record (Some bytes) h = of_holds (slot_number bytes) (take 24 bytes) h.unknown stands.behind h.holds ∙ ap foot_count (sym h.tree_is)
 
 -- A MESSAGE WITH NO UNKNOWN BYTES
 

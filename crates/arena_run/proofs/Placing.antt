@@ -5,7 +5,8 @@ use Rattle.std.specs.Option.{option_map}
 use Rattle.std.specs.FinMap as map
 use Rattle.std.proofs.lemmas.List.{take_at, length-replicate}
 use Rattle.arena_mem.specs.declared.place.Place.{Place}
-use Rattle.arena_mem.specs.Places.{Places, round8, splice, written}
+use Rattle.arena_mem.specs.Grows.{Grows}
+use Rattle.arena_mem.specs.Places.{Places, Buffers, round8, splice, written}
 use Rattle.arena_run.specs.Placed.{BeginsWith, IsPlacedAnew}
 use Rattle.arena_run.proofs.Counted.{len_placed, len_written}
 
@@ -32,3 +33,22 @@ placed_anew old mid new p size front free rounded fits zeros inserted changed wr
   there = some_and (map.get new p) (splice 0 front (replicate p.len 0)) (BeginsWith size front) (changed ∙ ap (option_map (splice 0 front)) zeros) (begins size p.len front rounded fits);
   counted = len_written mid new p 0 front (replicate p.len 0) zeros wrote ∙ len_placed old mid p (replicate p.len 0) free inserted;
 }
+
+-- a place was made, and then bytes were written to it
+module _ {S K : Type 0} (key : S → K) (places : S → Places) (buffers : S → Buffers) (blocks : S → ℕ → ℕ) where
+  pub filled_grows : (old mid new : S) (p : Place) → Grows key places buffers blocks 1 0 old mid → map.get (places old) p ≡ None → ((q : Place) → (q ≡ p → ⊥) → map.get (places new) q ≡ map.get (places mid) q)
+      → map.len (places new) ≡ map.len (places mid) → buffers new ≡ buffers mid → key new ≡ key mid → ((region : ℕ) → blocks new region ≡ blocks mid region) → Grows key places buffers blocks 1 0 old new
+  filled_grows old mid new p g free others count kept same still = record {
+    key = same ∙ g.key;
+    rest = λ q was is. others q (λ e. none_is_some was (sym free ∙ (ap (map.get (places old)) (sym e) ∙ is))) ∙ g.rest q was is;
+    buffers = λ b was is. ap (λ m. map.get m b) kept ∙ g.buffers b was is;
+    no_fewer_places = omega (arith, g.no_fewer_places, count);
+    few_places = omega (arith, g.few_places, count);
+    no_fewer_buffers = omega (arith, g.no_fewer_buffers, ap map.len kept);
+    few_buffers = omega (arith, g.few_buffers, ap map.len kept);
+    no_fewer_blocks = λ region. omega (arith, g.no_fewer_blocks region, still region);
+    few_blocks = λ region. omega (arith, g.few_blocks region, still region);
+  }
+    where
+      none_is_some : (was : List ℕ) → ◌≡◌ {A = Option (List ℕ)} None (Some was) → ⊥
+      none_is_some was e = cc

@@ -3,7 +3,7 @@ use Rattle.std.proofs.Common.{◌≡◌, ◌+◌, ◌-◌, ◌<◌, ◌≤◌, �
 use Rattle.std.specs.Io.KnownBytes.{Appends, Keeps, append_known}
 use Rattle.std.proofs.KnownBytes.{Appends-trans}
 use Rattle.std.proofs.lemmas.List.{take-take, drop-take, take-append-le}
-use Rattle.arena_run.specs.Written.{TookPart, KeepsTaken}
+use Rattle.arena_mem.specs.Outside.{TookPart, KeepsTaken}
 
 suc_add : (a b : ℕ) → suc a + b ≡ suc (a + b)
 suc_add a b = omega arith

@@ -1,64 +1,128 @@
 -- The words of a command, one by one.
-use Rattle.std.proofs.Common.{◌≡◌, ◌-◌, ◌^◌, ◌<◌, ◌≤◌, ℕ, List, [], ◌∷◌, length, map, get_or, true, Option, Result, Ok, Err, subst, sym, ◌∙◌, arith}
-use Rattle.std.specs.Prelude.{codes}
+use Rattle.std.proofs.Common.{◌≡◌, ◌-◌, ◌^◌, ◌<◌, ◌≤◌, ℕ, List, [], ◌∷◌, length, map, get_or, true, Option, None, Some, refl, sym, ap, ◌∙◌, subst, inl, inr, ⊎_elim, arith}
+use Rattle.std.specs.Prelude.{codes, IfNone}
 use Rattle.std.specs.Str.{bytes_eq}
 use Rattle.std.proofs.lemmas.Slice.Eq.{bytes_eq-Decides}
-use Rattle.std.specs.Prelude.{IfOk, IfSome}
-use Rattle.arena_mem.specs.Outside.{NamedFiles}
+use Rattle.arena_run.specs.declared.command.Command.{Command}
+use Rattle.arena_run.specs.declared.command.Command.TheVariants.{Cat, Run, Gen}
 use Rattle.arena_run.specs.declared.fault.Fault.{Fault}
-use Rattle.arena_run.specs.Contents.{content_of, OfContent}
-use Rattle.arena_run.specs.Words.{IsNumber, IsWorkers, IsCatForm, IsRunForm, IsGenForm, IsCat}
+use Rattle.arena_run.specs.declared.fault.Fault.TheVariants.{Usage, NotBuilt}
+use Rattle.arena_run.specs.Causes.{EndsByWords}
+use Rattle.arena_run.specs.Words.{number_in, Spells, IsNumber, IsWorkers, HasForm, HasNoForm, IsReadFrom, IsCat, IsOtherCommand}
 
 pub same_bytes : (xs ys zs : List ℕ) → xs ≡ ys → bytes_eq xs zs ≡ true → ys ≡ zs
 same_bytes xs ys zs e test = sym e ∙ (bytes_eq-Decides xs zs).0 test
 
-pub cat_form : {X : Type 0} (f : X → List ℕ) (xs : List X) (a e : X) → 5 ≤ length xs → length xs < 6 → a ≡ get_or xs 0 a → e ≡ get_or xs 4 e → f a ≡ codes "cat" → IsWorkers (f e) → IsCatForm (map f xs)
-cat_form f [] a e low high = absurd (omega arith)
-cat_form f (v ∷ []) a e low high = absurd (omega arith)
-cat_form f (v ∷ w ∷ []) a e low high = absurd (omega arith)
-cat_form f (v ∷ w ∷ x ∷ []) a e low high = absurd (omega arith)
-cat_form f (v ∷ w ∷ x ∷ y ∷ []) a e low high = absurd (omega arith)
-cat_form f (v ∷ w ∷ x ∷ y ∷ z ∷ []) a e low high = λ at_0 at_4 is_cat workers.
-    record { set = f w; type_name = f x; frames = f y; workers = f e; are = cc; count = workers }
-cat_form f (v ∷ w ∷ x ∷ y ∷ z ∷ more ∷ xs) a e low high = absurd (omega arith)
+-- the words that were matched are the list's
+pub four_words : {X : Type 0} (f : X → List ℕ) (xs : List X) (a b c d : X) → 4 ≤ length xs → length xs < 5 → a ≡ get_or xs 0 a → b ≡ get_or xs 1 b → c ≡ get_or xs 2 c → d ≡ get_or xs 3 d → map f xs ≡ f a ∷ f b ∷ f c ∷ f d ∷ []
+four_words f [] a b c d low high = absurd (omega arith)
+four_words f (v ∷ []) a b c d low high = absurd (omega arith)
+four_words f (v ∷ w ∷ []) a b c d low high = absurd (omega arith)
+four_words f (v ∷ w ∷ x ∷ []) a b c d low high = absurd (omega arith)
+four_words f (v ∷ w ∷ x ∷ y ∷ []) a b c d low high = λ at_0 at_1 at_2 at_3. cc
+four_words f (v ∷ w ∷ x ∷ y ∷ more ∷ xs) a b c d low high = absurd (omega arith)
 
-pub run_form : {X : Type 0} (f : X → List ℕ) (xs : List X) (a e : X) → 6 ≤ length xs → length xs < 7 → a ≡ get_or xs 0 a → e ≡ get_or xs 5 e → f a ≡ codes "run" → IsWorkers (f e) → IsRunForm (map f xs)
-run_form f [] a e low high = absurd (omega arith)
-run_form f (v ∷ []) a e low high = absurd (omega arith)
-run_form f (v ∷ w ∷ []) a e low high = absurd (omega arith)
-run_form f (v ∷ w ∷ x ∷ []) a e low high = absurd (omega arith)
-run_form f (v ∷ w ∷ x ∷ y ∷ []) a e low high = absurd (omega arith)
-run_form f (v ∷ w ∷ x ∷ y ∷ z ∷ []) a e low high = absurd (omega arith)
-run_form f (v ∷ w ∷ x ∷ y ∷ z ∷ u ∷ []) a e low high = λ at_0 at_5 is_run workers.
-    record { set = f w; type_name = f x; frames = f y; script = f z; workers = f e; are = cc; count = workers }
-run_form f (v ∷ w ∷ x ∷ y ∷ z ∷ u ∷ more ∷ xs) a e low high = absurd (omega arith)
+pub five_words : {X : Type 0} (f : X → List ℕ) (xs : List X) (a b c d e : X) → 5 ≤ length xs → length xs < 6 → a ≡ get_or xs 0 a → b ≡ get_or xs 1 b → c ≡ get_or xs 2 c → d ≡ get_or xs 3 d → e ≡ get_or xs 4 e
+    → map f xs ≡ f a ∷ f b ∷ f c ∷ f d ∷ f e ∷ []
+five_words f [] a b c d e low high = absurd (omega arith)
+five_words f (v ∷ []) a b c d e low high = absurd (omega arith)
+five_words f (v ∷ w ∷ []) a b c d e low high = absurd (omega arith)
+five_words f (v ∷ w ∷ x ∷ []) a b c d e low high = absurd (omega arith)
+five_words f (v ∷ w ∷ x ∷ y ∷ []) a b c d e low high = absurd (omega arith)
+five_words f (v ∷ w ∷ x ∷ y ∷ z ∷ []) a b c d e low high = λ at_0 at_1 at_2 at_3 at_4. cc
+five_words f (v ∷ w ∷ x ∷ y ∷ z ∷ more ∷ xs) a b c d e low high = absurd (omega arith)
 
-pub gen_form : {X : Type 0} (f : X → List ℕ) (xs : List X) (a b d e : X) → 4 ≤ length xs → length xs < 5 → a ≡ get_or xs 0 a → b ≡ get_or xs 1 b → d ≡ get_or xs 2 d → e ≡ get_or xs 3 e
-    → f a ≡ codes "gen" → IsNumber 10 0 (2 ^ 32 - 1) (f b) → IsNumber 5 1 65535 (f d) → IsWorkers (f e) → IsGenForm (map f xs)
-gen_form f [] a b d e low high = absurd (omega arith)
-gen_form f (v ∷ []) a b d e low high = absurd (omega arith)
-gen_form f (v ∷ w ∷ []) a b d e low high = absurd (omega arith)
-gen_form f (v ∷ w ∷ x ∷ []) a b d e low high = absurd (omega arith)
-gen_form f (v ∷ w ∷ x ∷ y ∷ []) a b d e low high = λ at_0 at_1 at_2 at_3 is_gen seed count workers.
-    record { seed = f b; frames = f d; workers = f e; are = cc; seed_below = seed; frames_below = count; count = workers }
-gen_form f (v ∷ w ∷ x ∷ y ∷ more ∷ xs) a b d e low high = absurd (omega arith)
+pub six_words : {X : Type 0} (f : X → List ℕ) (xs : List X) (a b c d e g : X) → 6 ≤ length xs → length xs < 7 → a ≡ get_or xs 0 a → b ≡ get_or xs 1 b → c ≡ get_or xs 2 c → d ≡ get_or xs 3 d → e ≡ get_or xs 4 e → g ≡ get_or xs 5 g
+    → map f xs ≡ f a ∷ f b ∷ f c ∷ f d ∷ f e ∷ f g ∷ []
+six_words f [] a b c d e g low high = absurd (omega arith)
+six_words f (v ∷ []) a b c d e g low high = absurd (omega arith)
+six_words f (v ∷ w ∷ []) a b c d e g low high = absurd (omega arith)
+six_words f (v ∷ w ∷ x ∷ []) a b c d e g low high = absurd (omega arith)
+six_words f (v ∷ w ∷ x ∷ y ∷ []) a b c d e g low high = absurd (omega arith)
+six_words f (v ∷ w ∷ x ∷ y ∷ z ∷ []) a b c d e g low high = absurd (omega arith)
+six_words f (v ∷ w ∷ x ∷ y ∷ z ∷ u ∷ []) a b c d e g low high = λ at_0 at_1 at_2 at_3 at_4 at_5. cc
+six_words f (v ∷ w ∷ x ∷ y ∷ z ∷ u ∷ more ∷ xs) a b c d e g low high = absurd (omega arith)
 
-pub is_cat : {X : Type 0} (f : X → List ℕ) (xs : List X) (a b c d e : X) → 5 ≤ length xs → length xs < 6 → a ≡ get_or xs 0 a → b ≡ get_or xs 1 b → c ≡ get_or xs 2 c → d ≡ get_or xs 3 d → e ≡ get_or xs 4 e
-    → f a ≡ codes "cat" → f b ≡ codes "builtin" → f c ≡ codes "pb.Tick" → IsNumber 2 1 1 (f e) → IsCat (map f xs) (f d)
-is_cat f [] a b c d e low high = absurd (omega arith)
-is_cat f (v ∷ []) a b c d e low high = absurd (omega arith)
-is_cat f (v ∷ w ∷ []) a b c d e low high = absurd (omega arith)
-is_cat f (v ∷ w ∷ x ∷ []) a b c d e low high = absurd (omega arith)
-is_cat f (v ∷ w ∷ x ∷ y ∷ []) a b c d e low high = absurd (omega arith)
-is_cat f (v ∷ w ∷ x ∷ y ∷ z ∷ []) a b c d e low high = λ at_0 at_1 at_2 at_3 at_4 is_cat is_set is_type one.
-    record { workers = f e; are = cc; one = one }
-is_cat f (v ∷ w ∷ x ∷ y ∷ z ∷ more ∷ xs) a b c d e low high = absurd (omega arith)
+-- a command that is read from words has one of the forms
+pub read_form : (words : List (List ℕ)) (command : Command) → IsReadFrom words command → HasForm words
+read_form words (Cat set type_name frames workers) read = inl (record { set = set.now; type_name = type_name.now; frames = frames.now; workers = read.0; are = read.1; count = (workers, read.2) })
+read_form words (Run set type_name frames script workers) read =
+    inr (inl (record { set = set.now; type_name = type_name.now; frames = frames.now; script = script.now; workers = read.0; are = read.1; count = (workers, read.2) }))
+read_form words (Gen seed count workers) read =
+    inr (inr (record { seed = read.0; frames = read.1; workers = read.2; are = read.3; seed_below = (seed, read.4); frames_below = (count, read.5); count = (workers, read.6) }))
 
 -- the words name one frames file
 pub same_frames : (words : List (List ℕ)) (a b : List ℕ) → IsCat words a → IsCat words b → a ≡ b
 same_frames words a b p q = let first = p.are in let second = q.are in cc
 
--- what holds of the file that the words name holds of each file that they name
-pub for_each_file : {A : Type 0} (r : Result A Fault) (words : List (List ℕ)) (files : Option NamedFiles) (name : List ℕ) (Q : A → List ℕ → Type 0) → IsCat words name → IfOk r (λ x. IfSome (content_of files name) (Q x)) → IfOk r (λ x. OfContent words files (Q x))
-for_each_file (Ok x) words files name Q is_cat h = λ frames other. subst (λ n. IfSome (content_of files n) (Q x)) (same_frames words name frames is_cat other) h
-for_each_file (Err fault) words files name Q is_cat h = tt
+pub if_none : {A : Type 0} (o : Option A) (P : Type 0) → P → IfNone o P
+if_none None P p = p
+if_none (Some x) P p = tt
+
+-- six words whose last isn't a number of workers have no form
+pub no_run_form : (words : List (List ℕ)) (a b c d e workers : List ℕ) → words ≡ a ∷ b ∷ c ∷ d ∷ e ∷ workers ∷ [] → (IsWorkers workers → ⊥) → HasNoForm words
+no_run_form words a b c d e workers are refuted form = ⊎_elim
+    (λ cat. let other = cat.are in cc)
+    (λ rest. ⊎_elim
+    (λ run. let other = run.are in let same : run.workers ≡ workers = cc in refuted (subst IsWorkers same run.count))
+    (λ gen. let other = gen.are in cc)
+    rest)
+    form
+
+-- THE COMMAND THAT IS BUILT
+
+one_is : (workers : ℕ) (spelled word : List ℕ) → Spells 2 1 64 spelled workers → word ≡ spelled → IsNumber 2 1 1 word → workers ≡ 1
+one_is workers spelled word spells same one =
+    let found : number_in word ≡ Some workers = ap number_in same ∙ spells.value in
+    let told = one.1.value in
+    let is : one.0 ≡ workers = cc in
+    omega (arith, is, one.1.low, one.1.high)
+
+-- the words of `cat` over the built types with one worker
+pub is_cat : (words : List (List ℕ)) (set type_name frames : List ℕ) (workers : ℕ) → (spelled : List ℕ) × (words ≡ codes "cat" ∷ set ∷ type_name ∷ frames ∷ spelled ∷ []) × Spells 2 1 64 spelled workers
+    → (set ≡ codes "builtin") × (type_name ≡ codes "pb.Tick") × (workers ≡ 1) → IsCat words frames
+is_cat words set type_name frames workers read built =
+    let spells = read.2 in
+    record { workers = read.0; are = (let are = read.1 in let first = built.0 in let second = built.1 in cc); one = (workers, record { some = spells.some; few = spells.few; value = spells.value; low = spells.low; high = omega (arith, built.2) }) }
+
+pub other_cat : (words : List (List ℕ)) (set type_name frames : List ℕ) (workers : ℕ) → (spelled : List ℕ) × (words ≡ codes "cat" ∷ set ∷ type_name ∷ frames ∷ spelled ∷ []) × Spells 2 1 64 spelled workers
+    → ((set ≡ codes "builtin") × (type_name ≡ codes "pb.Tick") × (workers ≡ 1) → ⊥) → IsOtherCommand words
+other_cat words set type_name frames workers read refuted named is =
+    let are = read.1 in
+    let other = is.are in
+    let same : is.workers ≡ read.0 = cc in
+    refuted (cc, cc, one_is workers read.0 is.workers read.2 same is.one)
+
+pub other_run : (words : List (List ℕ)) (set type_name frames script workers : List ℕ) → words ≡ codes "run" ∷ set ∷ type_name ∷ frames ∷ script ∷ workers ∷ [] → IsOtherCommand words
+other_run words set type_name frames script workers are named is = let other = is.are in cc
+
+pub other_gen : (words : List (List ℕ)) (seed count workers : List ℕ) → words ≡ codes "gen" ∷ seed ∷ count ∷ workers ∷ [] → IsOtherCommand words
+other_gen words seed count workers are named is = let other = is.are in cc
+
+cat_is_form : (words : List (List ℕ)) (frames : List ℕ) → IsCat words frames → HasForm words
+cat_is_form words frames is =
+    let one = is.one.1 in
+    inl (record { set = codes "builtin"; type_name = codes "pb.Tick"; frames = frames; workers = is.workers; are = is.are; count = (is.one.0, record { some = one.some; few = one.few; value = one.value; low = one.low; high = omega (arith, one.high) }) })
+
+-- WHAT FOLLOWS FROM THE WORDS
+
+pub words_none : (words : List (List ℕ)) → HasNoForm words → EndsByWords words (Some Usage)
+words_none words none = record {
+  usage = (λ _. none, λ _. refl);
+  not_built = (λ is. cc, λ unbuilt. absurd (none unbuilt.0));
+  command = (λ past. absurd (omega (arith, past)), λ cat. absurd (none (cat_is_form words cat.0 cat.1)));
+}
+
+pub words_other : (words : List (List ℕ)) → HasForm words → IsOtherCommand words → EndsByWords words (Some NotBuilt)
+words_other words form other = record {
+  usage = (λ is. cc, λ none. absurd (none form));
+  not_built = (λ _. (form, other), λ _. refl);
+  command = (λ past. absurd (omega (arith, past)), λ cat. absurd (other cat.0 cat.1));
+}
+
+pub words_built : (words : List (List ℕ)) (frames : List ℕ) → IsCat words frames → EndsByWords words None
+words_built words frames is = record {
+  usage = (λ ends. cc, λ none. absurd (none (cat_is_form words frames is)));
+  not_built = (λ ends. cc, λ unbuilt. absurd (unbuilt.1 frames is));
+  command = (λ _. (frames, is), λ _. omega arith);
+}

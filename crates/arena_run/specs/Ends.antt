@@ -1,118 +1,101 @@
--- How a run ends.
-use Rattle.std.specs.Prelude.{◌≡◌, ℕ, Option, None, Some, Result, Ok, Err, ⊤}
+-- How a run ends: the status of each fault, and the stage of the run at which it comes.
+use Rattle.std.specs.Prelude.{◌≡◌, ◌⊎◌, ◌<◌, ◌≤◌, ℕ, Option, None, Some, Result, Ok, Err}
 use Rattle.arena_run.specs.declared.fault.Fault.{Fault}
 use Rattle.arena_run.specs.declared.fault.Fault.TheVariants.{NoMemory, Usage, FrameCut, BadFrame, ReadFault, WriteFault, TooLong, NotBuilt}
 
-abbrev pub fault_status : Fault → ℕ
-fault_status NoMemory = 1
-fault_status Usage = 2
-fault_status (FrameCut index) = 4
-fault_status (BadFrame index fault) = 4
-fault_status ReadFault = 6
-fault_status WriteFault = 7
-fault_status (TooLong which limit) = 8
-fault_status NotBuilt = 9
+-- THE STAGES, in their order: the words are read, then the frames file, its frames and their payloads, and then all is written
+
+abbrev pub at_words : ℕ
+at_words = 0
+
+abbrev pub at_reading : ℕ
+at_reading = 1
+
+abbrev pub at_framing : ℕ
+at_framing = 2
+
+abbrev pub at_payloads : ℕ
+at_payloads = 3
+
+abbrev pub at_writing : ℕ
+at_writing = 4
+
+abbrev pub at_end : ℕ
+at_end = 5
+
+-- the status of a fault, and the stage at which it comes; want of memory comes up to that stage
+abbrev pub row_of : Fault → ℕ × ℕ
+row_of NoMemory = (1, at_payloads)
+row_of Usage = (2, at_words)
+row_of (FrameCut index) = (4, at_framing)
+row_of (BadFrame index fault) = (4, at_payloads)
+row_of ReadFault = (6, at_reading)
+row_of WriteFault = (7, at_writing)
+row_of (TooLong which limit) = (8, at_framing)
+row_of NotBuilt = (9, at_words)
 
 -- the status of a run, by its fault
 abbrev pub status_of : Option Fault → ℕ
 status_of None = 0
-status_of (Some fault) = fault_status fault
+status_of (Some fault) = (row_of fault).0
 
--- all was read and parsed: the run ended well, or failed to write
-abbrev pub IsParsed : Option Fault → Type 0
-IsParsed None = ⊤
-IsParsed (Some NoMemory) = ⊥
-IsParsed (Some Usage) = ⊥
-IsParsed (Some (FrameCut index)) = ⊥
-IsParsed (Some (BadFrame index fault)) = ⊥
-IsParsed (Some ReadFault) = ⊥
-IsParsed (Some WriteFault) = ⊤
-IsParsed (Some (TooLong which limit)) = ⊥
-IsParsed (Some NotBuilt) = ⊥
+-- the last stage at which a run with this fault ends, and the first
+abbrev pub last_stage : Option Fault → ℕ
+last_stage None = at_end
+last_stage (Some fault) = (row_of fault).1
 
--- the run ended before it wrote
-abbrev pub IsUnparsed : Option Fault → Type 0
-IsUnparsed None = ⊥
-IsUnparsed (Some NoMemory) = ⊤
-IsUnparsed (Some Usage) = ⊤
-IsUnparsed (Some (FrameCut index)) = ⊤
-IsUnparsed (Some (BadFrame index fault)) = ⊤
-IsUnparsed (Some ReadFault) = ⊤
-IsUnparsed (Some WriteFault) = ⊥
-IsUnparsed (Some (TooLong which limit)) = ⊤
-IsUnparsed (Some NotBuilt) = ⊤
+abbrev pub first_stage : Option Fault → ℕ
+first_stage (Some NoMemory) = at_reading
+first_stage (Some fault) = (row_of fault).1
+first_stage None = at_end
 
--- nothing was placed: the run ended before it parsed a payload
-abbrev pub IsUnplaced : Option Fault → Type 0
-IsUnplaced None = ⊥
-IsUnplaced (Some NoMemory) = ⊥
-IsUnplaced (Some Usage) = ⊤
-IsUnplaced (Some (FrameCut index)) = ⊤
-IsUnplaced (Some (BadFrame index fault)) = ⊥
-IsUnplaced (Some ReadFault) = ⊤
-IsUnplaced (Some WriteFault) = ⊥
-IsUnplaced (Some (TooLong which limit)) = ⊤
-IsUnplaced (Some NotBuilt) = ⊤
+-- WHAT A FAULT TELLS OF THE RUN
 
--- the run ended well, or in want of memory
-abbrev pub EndsWell : Option Fault → Type 0
-EndsWell None = ⊤
-EndsWell (Some NoMemory) = ⊤
-EndsWell (Some Usage) = ⊥
-EndsWell (Some (FrameCut index)) = ⊥
-EndsWell (Some (BadFrame index fault)) = ⊥
-EndsWell (Some ReadFault) = ⊥
-EndsWell (Some WriteFault) = ⊥
-EndsWell (Some (TooLong which limit)) = ⊥
-EndsWell (Some NotBuilt) = ⊥
+-- it ended by its words
+abbrev pub IsOfWords : Option Fault → Type 0
+IsOfWords end = last_stage end ≤ at_words
 
--- the frames file was read: the run ended by what it holds, or by writing
+-- it went past its words
+abbrev pub IsPastWords : Option Fault → Type 0
+IsPastWords end = at_words < last_stage end
+
+-- the frames file was read, and the run ended by what it holds, or by writing
 abbrev pub IsRead : Option Fault → Type 0
-IsRead None = ⊤
-IsRead (Some NoMemory) = ⊥
-IsRead (Some Usage) = ⊥
-IsRead (Some (FrameCut index)) = ⊤
-IsRead (Some (BadFrame index fault)) = ⊤
-IsRead (Some ReadFault) = ⊥
-IsRead (Some WriteFault) = ⊤
-IsRead (Some (TooLong which limit)) = ⊤
-IsRead (Some NotBuilt) = ⊥
+IsRead end = at_reading < first_stage end
 
--- a run over a file whose content has this first fault, or none: want of memory and a fault of reading may come before it, a fault of writing where there is none
-abbrev pub EndsBy : Option Fault → Option Fault → Type 0
-EndsBy first None = first ≡ None
-EndsBy first (Some NoMemory) = ⊤
-EndsBy first (Some Usage) = ⊥
-EndsBy first (Some (FrameCut index)) = first ≡ Some (FrameCut index)
-EndsBy first (Some (BadFrame index fault)) = first ≡ Some (BadFrame index fault)
-EndsBy first (Some ReadFault) = ⊤
-EndsBy first (Some WriteFault) = first ≡ None
-EndsBy first (Some (TooLong which limit)) = first ≡ Some (TooLong which limit)
-EndsBy first (Some NotBuilt) = ⊥
+-- nothing was placed: it ended before it parsed a payload
+abbrev pub IsUnplaced : Option Fault → Type 0
+IsUnplaced end = last_stage end < at_payloads
 
--- a fault that comes of reading the frames file, before its payloads are looked at
-abbrev pub IsOfFile : Fault → Type 0
-IsOfFile NoMemory = ⊤
-IsOfFile Usage = ⊥
-IsOfFile (FrameCut index) = ⊤
-IsOfFile (BadFrame index fault) = ⊥
-IsOfFile ReadFault = ⊤
-IsOfFile WriteFault = ⊥
-IsOfFile (TooLong which limit) = ⊤
-IsOfFile NotBuilt = ⊥
+-- it ended before it wrote
+abbrev pub IsUnparsed : Option Fault → Type 0
+IsUnparsed end = last_stage end < at_writing
 
--- the fault of a part of the run that ends with a value or a fault
+-- all was read and parsed: it ended well, or failed to write
+abbrev pub IsParsed : Option Fault → Type 0
+IsParsed end = at_writing ≤ first_stage end
+
+-- it ended well, or in want of memory
+abbrev pub EndsWell : Option Fault → Type 0
+EndsWell end = (end ≡ None) ⊎ (end ≡ Some NoMemory)
+
+-- a run over a file whose content has this first fault, or none: it ends by that fault; want of memory and a fault of reading may come before it, a fault of writing where there is none
+pub record EndsBy (first end : Option Fault) : Type 0 where
+  pub fault : IsRead end → IsUnparsed end → first ≡ end
+  pub none : IsParsed end → first ≡ None
+
+-- PARTS OF THE RUN
+
+-- the fault of a part that ends with a value or a fault
 abbrev pub result_fault : {A : Type 0} → Result A Fault → Option Fault
 result_fault (Ok x) = None
 result_fault (Err fault) = Some fault
 
+-- a fault that comes of reading the frames file, before its payloads are looked at
+pub record IsOfFile (fault : Fault) : Type 0 where
+  pub past : at_words < last_stage (Some fault)
+  pub before : first_stage (Some fault) < at_payloads
+
 -- a fault that comes of parsing the payloads
 abbrev pub IsOfPayloads : Fault → Type 0
-IsOfPayloads NoMemory = ⊤
-IsOfPayloads Usage = ⊥
-IsOfPayloads (FrameCut index) = ⊥
-IsOfPayloads (BadFrame index fault) = ⊤
-IsOfPayloads ReadFault = ⊥
-IsOfPayloads WriteFault = ⊥
-IsOfPayloads (TooLong which limit) = ⊥
-IsOfPayloads NotBuilt = ⊥
+IsOfPayloads fault = last_stage (Some fault) ≡ at_payloads

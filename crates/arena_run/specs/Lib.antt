@@ -4,5 +4,5 @@ pub mod Contents
 pub mod Payload
 pub mod Stands
 pub mod Placed
-pub mod Written
 pub mod Ends
+pub mod Causes

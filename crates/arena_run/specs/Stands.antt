@@ -1,5 +1,5 @@
 -- The record of a message of `pb.Tick`, and what it stands for.
-use Rattle.std.specs.Prelude.{◌≡◌, ◌⊎◌, ◌+◌, ◌*◌, ◌^◌, ◌<◌, ◌≤◌, ℕ, zero, suc, List, [], ◌∷◌, ◌++◌, length, take, drop, replicate, None, Some, IsSomeAnd, ⊤}
+use Rattle.std.specs.Prelude.{◌≡◌, ◌⊎◌, ◌+◌, ◌*◌, ◌^◌, ◌<◌, ◌≤◌, ℕ, zero, suc, List, [], ◌∷◌, ◌++◌, length, take, drop, replicate, sum_by, None, Some, IsSomeAnd, ⊤}
 use Rattle.std.specs.Int.{w32, w64, from_le_bytes}
 use Rattle.std.specs.List.{AllByRecursion}
 use Rattle.std.specs.FinMap as map
@@ -112,12 +112,21 @@ EachTwo R (x ∷ xs) = AllByRecursion (R x) xs × EachTwo R xs
 abbrev pub Differ : {A : Type 0} → A → A → Type 0
 Differ x y = x ≡ y → ⊥
 
--- messages that stand for trees on feet of their own; beside these there were so many places and buffers
-pub record StandApart (others : ℕ) (places : Places) (buffers : Buffers) (ps : List Place) (trees : List Tree) : Type 0 where
+-- messages that stand for trees, each on feet of its own, and each foot once
+pub record StandApart (places : Places) (buffers : Buffers) (ps : List Place) (trees : List Tree) : Type 0 where
   pub feet : List Foot
   pub stand : AllStand places buffers ps trees feet
   pub once : EachTwo Differ feet
-  pub only : how_many places buffers ≡ others + length feet
+
+-- how many feet the message of a tree has: its record, and for unknown bytes an array and its element
+abbrev pub foot_count : Tree → ℕ
+foot_count (Message _ []) = 1
+foot_count (Message _ (b ∷ unknown)) = 3
+
+-- the same beside so many places and buffers, and nothing else is there
+pub record StandAlone (others : ℕ) (places : Places) (buffers : Buffers) (ps : List Place) (trees : List Tree) : Type 0 where
+  pub apart : StandApart places buffers ps trees
+  pub only : how_many places buffers ≡ others + sum_by foot_count trees
 
 -- WHAT IS NEW
 
@@ -140,8 +149,3 @@ pub record IsMadeAnew (places : Places) (buffers : Buffers) (new_places : Places
   pub free : AllByRecursion (IsFree places buffers) feet
   pub once : EachTwo Differ feet
   pub counted : how_many new_places new_buffers ≡ how_many places buffers + length feet
-
--- at most three places and one buffer are new
-pub record GrowsLittle (places : Places) (buffers : Buffers) (new_places : Places) (new_buffers : Buffers) : Type 0 where
-  pub few_places : map.len new_places ≤ map.len places + 3
-  pub few_buffers : map.len new_buffers ≤ map.len buffers + 1

@@ -1,6 +1,8 @@
 -- The words that the program is called with, without its own name.
-use Rattle.std.specs.Prelude.{◌≡◌, ◌⊎◌, ◌+◌, ◌-◌, ◌*◌, ◌^◌, ◌≤◌, ℕ, Bool, ◌&&◌, nat_le, List, [], ◌∷◌, length, Option, None, Some, IsSomeAnd, codes, if◌then◌else◌}
+use Rattle.std.specs.Prelude.{◌≡◌, ◌⊎◌, ◌+◌, ◌-◌, ◌*◌, ◌^◌, ◌≤◌, ℕ, Bool, ◌&&◌, nat_le, List, [], ◌∷◌, length, Option, None, Some, codes, if◌then◌else◌}
 use Rattle.std.specs.Option.{option_map}
+use Rattle.arena_run.specs.declared.command.Command.{Command}
+use Rattle.arena_run.specs.declared.command.Command.TheVariants.{Cat, Run, Gen}
 
 -- NUMBERS
 
@@ -12,11 +14,17 @@ abbrev pub number_in : List ℕ → Option ℕ
 number_in [] = Some 0
 number_in (b ∷ s) = if is_digit b then option_map (λ v. (b - 48) * 10 ^ length s + v) (number_in s) else None
 
--- one to so many digits, leading zeros among them, of a number from least to most
-pub record IsNumber (digits least most : ℕ) (word : List ℕ) : Type 0 where
+-- one to so many digits, leading zeros among them, that spell this number, which is from least to most
+pub record Spells (digits least most : ℕ) (word : List ℕ) (number : ℕ) : Type 0 where
   pub some : 1 ≤ length word
   pub few : length word ≤ digits
-  pub value : IsSomeAnd (number_in word) (λ v. (least ≤ v) × (v ≤ most))
+  pub value : number_in word ≡ Some number
+  pub low : least ≤ number
+  pub high : number ≤ most
+
+-- the same of some number
+abbrev pub IsNumber : ℕ → ℕ → ℕ → List ℕ → Type 0
+IsNumber digits least most word = (number : ℕ) × Spells digits least most word number
 
 -- how many workers are asked for
 abbrev pub IsWorkers : List ℕ → Type 0
@@ -58,6 +66,14 @@ HasForm words = IsCatForm words ⊎ (IsRunForm words ⊎ IsGenForm words)
 
 abbrev pub HasNoForm : List (List ℕ) → Type 0
 HasNoForm words = HasForm words → ⊥
+
+-- the words that a command is read from
+abbrev pub IsReadFrom : List (List ℕ) → Command → Type 0
+IsReadFrom words (Cat set type_name frames workers) = (spelled : List ℕ) × (words ≡ codes "cat" ∷ set.now ∷ type_name.now ∷ frames.now ∷ spelled ∷ []) × Spells 2 1 64 spelled workers
+IsReadFrom words (Run set type_name frames script workers) = (spelled : List ℕ) × (words ≡ codes "run" ∷ set.now ∷ type_name.now ∷ frames.now ∷ script.now ∷ spelled ∷ []) × Spells 2 1 64 spelled workers
+IsReadFrom words (Gen seed count workers) =
+    (spelled_seed : List ℕ) × (spelled_count : List ℕ) × (spelled : List ℕ) × (words ≡ codes "gen" ∷ spelled_seed ∷ spelled_count ∷ spelled ∷ [])
+    × Spells 10 0 (2 ^ 32 - 1) spelled_seed seed × Spells 5 1 65535 spelled_count count × Spells 2 1 64 spelled workers
 
 -- WHAT IS BUILT
 

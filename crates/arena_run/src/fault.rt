@@ -13,7 +13,7 @@ pub enum InputKind {
 }
 
 /// Why a run didn't end well.
-#[derive(Clone, Copy, Debug, PartialEq, Eq)]
+#[derive(Debug, PartialEq, Eq, Drop)]
 pub enum Fault {
     /// A growth was refused. Status 1.
     NoMemory,
@@ -34,11 +34,12 @@ pub enum Fault {
 }
 
 impl Fault {
-    ghost use Rattle.arena_run.specs.Ends.{fault_status};
+    ghost use Rattle.std.specs.Prelude.{Some};
+    ghost use Rattle.arena_run.specs.Ends.{status_of};
 
     /// The status that the fault ends a run with.
-    pub fn status(self) -> u8
-        ensures { result ≡ fault_status self }
+    pub fn status(&self) -> u8
+        ensures { result ≡ status_of (Some self.now) }
     {
         match self {
             Fault::NoMemory => 1,

@@ -5,6 +5,7 @@
 //! that is handed back; and every status but that of want of memory says when it comes.
 #![tactic(auto)]
 
+mod command;
 mod contents;
 mod fault;
 mod input;

@@ -1,14 +1,14 @@
 // Parsing the frames of a file into messages.
-ghost use Rattle.std.specs.Prelude.{◌≡◌, ◌⊎◌, ◌+◌, ◌-◌, ◌*◌, ◌^◌, ◌<◌, ◌≤◌, ℕ, List, [], None, Some, All, length, take, IfOk, IfErr, IsSomeAnd};
-ghost use Rattle.std.specs.FinMap as finite;
-ghost use Rattle.arena_mem.specs.Places.{KeepsRest, KeepsBuffers};
+ghost use Rattle.std.specs.Prelude.{◌≡◌, ◌⊎◌, ◌*◌, ◌^◌, ◌<◌, ◌≤◌, List, [], None, Some, All, length, take, IfOk, IfErr, IsSomeAnd};
+ghost use Rattle.arena_mem.specs.Grows.{Grows};
 ghost use Rattle.pb_schema.specs.Builtin.{builtin};
+ghost use Rattle.pb_schema.specs.Payloads.{trees_of};
 ghost use Rattle.pb_schema.specs.Records.{Record, Records};
 ghost use Rattle.pb_schema.specs.TreeOf.{tree_of};
 ghost use Rattle.arena_run.specs.Ends.{IsOfPayloads};
-ghost use Rattle.arena_run.specs.Faults.{each_tree, payloads_fault};
+ghost use Rattle.arena_run.specs.Faults.{payloads_fault};
 ghost use Rattle.arena_run.specs.Payload.{IsFaultOf};
-ghost use Rattle.arena_run.specs.Stands.{StandApart, IsMadeAnew, GrowsLittle, how_many, tick};
+ghost use Rattle.arena_run.specs.Stands.{StandAlone, IsMadeAnew, how_many, tick};
 
 use crate::contents::{Contents, PayloadFault};
 use crate::fault::Fault;
@@ -25,18 +25,12 @@ pub fn parse_frames<M: Memory>(
     mem: &mut M,
     frames: &Frames,
 ) -> Result<Vec<Place>, Fault>
-    requires blocks { (region : ℕ) → M.blocks mem.old region ≡ 0 }
-    requires few { length frames.now ≤ 2 ^ 20 }
-    requires short { All (λ payload. length payload < 2 ^ 31) frames.now }
-    ensures stand { IfOk result (λ messages. IsSomeAnd (each_tree frames.now) (StandApart (how_many (M.places mem.old) (M.buffers mem.old)) (M.places mem.new) (M.buffers mem.new) messages.items)) }
+    requires { All (λ payload. length payload < 2 ^ 31) frames.now }
+    ensures stand { IfOk result (λ messages. IsSomeAnd (trees_of builtin 0 frames.now) (StandAlone (how_many (M.places mem.old) (M.buffers mem.old)) (M.places mem.new) (M.buffers mem.new) messages.items)) }
     ensures sound { IfOk result (λ _. payloads_fault frames.now ≡ None) }
     ensures kind { IfErr result IsOfPayloads }
     ensures fault { IfErr result (λ fault. (fault ≡ Fault.NoMemory) ⊎ (payloads_fault frames.now ≡ Some fault)) }
-    ensures few { finite.len (M.places mem.new) ≤ finite.len (M.places mem.old) + 3 * 2 ^ 20 }
-    ensures few_buffers { finite.len (M.buffers mem.new) ≤ finite.len (M.buffers mem.old) + 2 ^ 20 }
-    ensures key { M.key mem.new ≡ M.key mem.old }
-    ensures rest { KeepsRest (M.places mem.old) (M.places mem.new) }
-    ensures buffers { KeepsBuffers (M.buffers mem.old) (M.buffers mem.new) }
+    ensures grows { Grows M.key M.places M.buffers M.blocks (3 * length frames.now) (length frames.now) mem.old mem.new }
 {
     let count = frames.count();
     let mut messages = room_for_messages(alloc, count)?;
@@ -63,17 +57,11 @@ fn parse_frame<M: Memory>(
     bytes: &[u8],
     len: usize,
 ) -> Result<Place, PayloadFault>
-    requires blocks { (region : ℕ) → M.blocks mem.old region < 2 ^ 32 - 4 }
     requires len { len ≤ length bytes.now }
     requires short { len < 2 ^ 31 }
     ensures made { IfOk result (λ p. IsSomeAnd (tree_of builtin 0 (take len bytes.now)) (IsMadeAnew (M.places mem.old) (M.buffers mem.old) (M.places mem.new) (M.buffers mem.new) p)) }
     ensures fault { IfErr result (IsFaultOf (take len bytes.now)) }
-    ensures few { finite.len (M.places mem.new) ≤ finite.len (M.places mem.old) + 3 }
-    ensures few_buffers { finite.len (M.buffers mem.new) ≤ finite.len (M.buffers mem.old) + 1 }
-    ensures key { M.key mem.new ≡ M.key mem.old }
-    ensures rest { KeepsRest (M.places mem.old) (M.places mem.new) }
-    ensures buffers { KeepsBuffers (M.buffers mem.old) (M.buffers mem.new) }
-    ensures block_counts { (region : ℕ) → M.blocks mem.new region ≤ M.blocks mem.old region + 3 }
+    ensures grows { Grows M.key M.places M.buffers M.blocks 3 1 mem.old mem.new }
 {
     let made = match read_value(bytes, len) {
         Some(value) => tick::create(mem, value),
@@ -90,15 +78,10 @@ fn parse_frame<M: Memory>(
 
 // Makes the message of a payload that was parsed.
 fn create_message<M: Memory>(mem: &mut M, contents: Contents) -> Result<Place, NoMemory>
-    requires blocks { (region : ℕ) → M.blocks mem.old region < 2 ^ 32 - 4 }
     requires short { length contents.unknown.items < 2 ^ 31 }
     requires whole { (rs : List Record) × Records contents.unknown.items rs }
     ensures made { IfOk result (λ p. IsMadeAnew (M.places mem.old) (M.buffers mem.old) (M.places mem.new) (M.buffers mem.new) p (tick contents.value contents.unknown.items)) }
-    ensures few { GrowsLittle (M.places mem.old) (M.buffers mem.old) (M.places mem.new) (M.buffers mem.new) }
-    ensures key { M.key mem.new ≡ M.key mem.old }
-    ensures rest { KeepsRest (M.places mem.old) (M.places mem.new) }
-    ensures buffers { KeepsBuffers (M.buffers mem.old) (M.buffers mem.new) }
-    ensures block_counts { (region : ℕ) → M.blocks mem.new region ≤ M.blocks mem.old region + 3 }
+    ensures grows { Grows M.key M.places M.buffers M.blocks 3 1 mem.old mem.new }
 {
     if contents.unknown.is_empty() {
         tick::create(mem, contents.value)

@@ -1,7 +1,6 @@
 // Byte strings in a memory: up to 15 bytes in a place, more as a kept buffer, and a slot that tells where they are.
-ghost use Rattle.std.specs.Prelude.{◌≡◌, ◌+◌, ◌-◌, ◌^◌, ◌<◌, ◌≤◌, ℕ, List, length, IfOk};
-ghost use Rattle.std.specs.FinMap as map;
-ghost use Rattle.arena_mem.specs.Places.{KeepsRest, KeepsBuffers};
+ghost use Rattle.std.specs.Prelude.{◌≡◌, ◌^◌, ◌<◌, ◌≤◌, ℕ, List, length, IfOk};
+ghost use Rattle.arena_mem.specs.Grows.{Grows};
 ghost use Rattle.arena_run.specs.Stands.{Foot, HoldsBytes, IsKeptAnew};
 
 use crate::placed::place_front;
@@ -15,14 +14,8 @@ const MOST_PLACED: usize = 15;
 pub fn keep_bytes<M: Memory>(mem: &mut M, bytes: Vec<u8>) -> Result<[u8; 24], NoMemory>
     requires some { 1 ≤ length bytes.items }
     requires short { length bytes.items < 2 ^ 31 }
-    requires blocks { (region : ℕ) → M.blocks mem.old region < 2 ^ 32 - 1 }
-    ensures key { M.key mem.new ≡ M.key mem.old }
     ensures kept { IfOk result (λ slot. IsKeptAnew (M.places mem.old) (M.buffers mem.old) (M.places mem.new) (M.buffers mem.new) slot bytes.items) }
-    ensures few_places { map.len (M.places mem.new) ≤ map.len (M.places mem.old) + 1 }
-    ensures few_buffers { map.len (M.buffers mem.new) ≤ map.len (M.buffers mem.old) + 1 }
-    ensures rest { KeepsRest (M.places mem.old) (M.places mem.new) }
-    ensures buffers { KeepsBuffers (M.buffers mem.old) (M.buffers mem.new) }
-    ensures block_counts { (region : ℕ) → M.blocks mem.new region ≤ M.blocks mem.old region + 1 }
+    ensures grows { Grows M.key M.places M.buffers M.blocks 1 1 mem.old mem.new }
 {
     if bytes.len() <= MOST_PLACED {
         place_bytes(mem, &bytes)
@@ -35,13 +28,8 @@ pub fn keep_bytes<M: Memory>(mem: &mut M, bytes: Vec<u8>) -> Result<[u8; 24], No
 fn place_bytes<M: Memory>(mem: &mut M, bytes: &[u8]) -> Result<[u8; 24], NoMemory>
     requires some { 1 ≤ length bytes.now }
     requires few { length bytes.now ≤ 15 }
-    requires blocks { (region : ℕ) → M.blocks mem.old region < 2 ^ 32 - 1 }
-    ensures key { M.key mem.new ≡ M.key mem.old }
     ensures kept { IfOk result (λ slot. IsKeptAnew (M.places mem.old) (M.buffers mem.old) (M.places mem.new) (M.buffers mem.new) slot bytes.now) }
-    ensures few_places { map.len (M.places mem.new) ≤ map.len (M.places mem.old) + 1 }
-    ensures rest { KeepsRest (M.places mem.old) (M.places mem.new) }
-    ensures buffers { M.buffers mem.new ≡ M.buffers mem.old }
-    ensures block_counts { (region : ℕ) → M.blocks mem.new region ≤ M.blocks mem.old region + 1 }
+    ensures grows { Grows M.key M.places M.buffers M.blocks 1 0 mem.old mem.new }
 {
     let len = bytes.len() as u32;
     let place = place_front(mem, len, bytes)?;
@@ -52,12 +40,8 @@ fn place_bytes<M: Memory>(mem: &mut M, bytes: &[u8]) -> Result<[u8; 24], NoMemor
 fn keep_long<M: Memory>(mem: &mut M, bytes: Vec<u8>) -> Result<[u8; 24], NoMemory>
     requires many { 16 ≤ length bytes.items }
     requires short { length bytes.items < 2 ^ 31 }
-    ensures key { M.key mem.new ≡ M.key mem.old }
     ensures kept { IfOk result (λ slot. IsKeptAnew (M.places mem.old) (M.buffers mem.old) (M.places mem.new) (M.buffers mem.new) slot bytes.items) }
-    ensures few_buffers { map.len (M.buffers mem.new) ≤ map.len (M.buffers mem.old) + 1 }
-    ensures places { M.places mem.new ≡ M.places mem.old }
-    ensures buffers { KeepsBuffers (M.buffers mem.old) (M.buffers mem.new) }
-    ensures blocks { (region : ℕ) → M.blocks mem.new region ≡ M.blocks mem.old region }
+    ensures grows { Grows M.key M.places M.buffers M.blocks 0 1 mem.old mem.new }
 {
     let len = bytes.len() as u32;
     match mem.keep(bytes) {

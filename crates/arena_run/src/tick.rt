@@ -1,14 +1,14 @@
 // Messages of `pb.Tick` in a memory: a record of 32 bytes, a slot of 24 for unknown bytes and one of 8 for the field.
-ghost use Rattle.std.specs.Prelude.{◌≡◌, ◌+◌, ◌-◌, ◌^◌, ◌<◌, ◌≤◌, ◌++◌, ℕ, List, [], IfOk, length};
+ghost use Rattle.std.specs.Prelude.{◌≡◌, ◌^◌, ◌<◌, ◌≤◌, ◌++◌, ℕ, List, [], IfOk, length};
 ghost use Rattle.std.specs.Int.{to_le_bytes, w64};
-ghost use Rattle.arena_mem.specs.Places.{KeepsRest, KeepsBuffers};
+ghost use Rattle.arena_mem.specs.Grows.{Grows};
 ghost use Rattle.pb_schema.specs.Records.{Record, Records};
-ghost use Rattle.arena_run.specs.Stands.{Stands, Foot, IsArray, tick, IsMadeAnew, GrowsLittle};
+ghost use Rattle.arena_run.specs.Stands.{Stands, Foot, IsArray, tick, IsMadeAnew};
 
 use crate::placed::place_front;
 use crate::slot::{ARRAY, FORM, NOTHING, SLOT_BYTES, place_at, place_slot, word};
 use crate::strings::{bytes_at, keep_bytes};
-use arena_mem::{MemFault, Memory, NoMemory, Place};
+use arena_mem::{Memory, NoMemory, Place};
 
 /// The tag of the field: number 1, wire type 0.
 pub const VALUE_TAG: u8 = 8;
@@ -22,16 +22,11 @@ const VALUE_SLOT: u32 = 24;
 const ARRAY_BYTES: u32 = 96;
 
 /// Makes a message whose field has this number; 0 is the default, so nothing is set then. It is inlined for speed: the
-/// result of a call goes through memory.
+/// result of a call goes through memory. Where the blocks are spent it wants memory.
 #[inline(always)]
 pub fn create<M: Memory>(mem: &mut M, value: u64) -> Result<Place, NoMemory>
-    requires { (region : ℕ) → M.blocks mem.old region < 2 ^ 32 - 2 }
-    ensures key { M.key mem.new ≡ M.key mem.old }
     ensures made { IfOk result (λ p. IsMadeAnew (M.places mem.old) (M.buffers mem.old) (M.places mem.new) (M.buffers mem.new) p (tick value [])) }
-    ensures few { GrowsLittle (M.places mem.old) (M.buffers mem.old) (M.places mem.new) (M.buffers mem.new) }
-    ensures rest { KeepsRest (M.places mem.old) (M.places mem.new) }
-    ensures buffers { KeepsBuffers (M.buffers mem.old) (M.buffers mem.new) }
-    ensures block_counts { (region : ℕ) → M.blocks mem.new region ≤ M.blocks mem.old region + 1 }
+    ensures grows { Grows M.key M.places M.buffers M.blocks 1 0 mem.old mem.new }
 {
     match mem.place(RECORD_BYTES) {
         Ok(message) => {
@@ -40,8 +35,7 @@ pub fn create<M: Memory>(mem: &mut M, value: u64) -> Result<Place, NoMemory>
             }
             Ok(message)
         }
-        Err(MemFault::NoMemory) => Err(NoMemory),
-        Err(MemFault::BlocksSpent { .. }) => unreachable!(),
+        Err(_) => Err(NoMemory),
     }
 }
 
@@ -51,16 +45,11 @@ pub fn create_with_unknown<M: Memory>(
     value: u64,
     unknown: Vec<u8>,
 ) -> Result<Place, NoMemory>
-    requires blocks { (region : ℕ) → M.blocks mem.old region < 2 ^ 32 - 4 }
     requires some { 1 ≤ length unknown.items }
     requires short { length unknown.items < 2 ^ 31 }
     requires whole { (rs : List Record) × Records unknown.items rs }
-    ensures key { M.key mem.new ≡ M.key mem.old }
     ensures made { IfOk result (λ p. IsMadeAnew (M.places mem.old) (M.buffers mem.old) (M.places mem.new) (M.buffers mem.new) p (tick value unknown.items)) }
-    ensures few { GrowsLittle (M.places mem.old) (M.buffers mem.old) (M.places mem.new) (M.buffers mem.new) }
-    ensures rest { KeepsRest (M.places mem.old) (M.places mem.new) }
-    ensures buffers { KeepsBuffers (M.buffers mem.old) (M.buffers mem.new) }
-    ensures block_counts { (region : ℕ) → M.blocks mem.new region ≤ M.blocks mem.old region + 3 }
+    ensures grows { Grows M.key M.places M.buffers M.blocks 3 1 mem.old mem.new }
 {
     let element = keep_bytes(mem, unknown)?;
     let array = place_front(mem, ARRAY_BYTES, &element)?;

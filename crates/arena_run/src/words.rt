@@ -1,7 +1,12 @@
 // The words of the command line.
-ghost use Rattle.std.specs.Prelude.{◌≡◌, ◌+◌, ◌^◌, ◌<◌, ◌≤◌, ℕ, List, true, false, length, map, MatchOption};
+ghost use Rattle.std.specs.Prelude.{◌≡◌, ◌+◌, ◌^◌, ◌<◌, ◌≤◌, true, false, length, map, codes, IfOk, IfErr, IfSome, IfNone, MatchOption};
 ghost use Rattle.std.specs.String.{string_bytes};
-ghost use Rattle.arena_run.specs.Words.{number_in, IsNumber, HasForm, HasNoForm, IsCat};
+ghost use Rattle.arena_run.specs.Ends.{IsOfWords, result_fault};
+ghost use Rattle.arena_run.specs.Causes.{EndsByWords};
+ghost use Rattle.arena_run.specs.Words.{number_in, Spells, IsNumber, HasNoForm, IsReadFrom, IsCat};
+
+use crate::command::Command;
+use crate::fault::Fault;
 
 /// The greatest number of workers, which has two digits.
 const MOST_WORKERS: u64 = 64;
@@ -12,59 +17,101 @@ const MOST_SEED: u64 = 4294967295;
 /// The greatest count of frames that are made, which has five digits.
 const MOST_COUNT: u64 = 65535;
 
-/// Whether the words have one of the three forms.
-pub fn has_form(words: &[String]) -> bool
-    ensures yes { result ≡ true → HasForm (map string_bytes words.now) }
-    ensures no { result ≡ false → HasNoForm (map string_bytes words.now) }
+/// The name of the frames file, where the words are those of the command that is built.
+pub fn frames_word(words: &[String]) -> Result<&str, Fault>
+    ensures built { IfOk result (λ frames. IsCat (map string_bytes words.now) frames.now) }
+    ensures by_words { EndsByWords (map string_bytes words.now) (result_fault result) }
+    ensures kind { IfErr result (λ fault. IsOfWords (Some fault)) }
 {
-    match words {
-        [command, _, _, _, workers] if command.as_str() == "cat" => is_workers(workers),
-        [command, _, _, _, _, workers] if command.as_str() == "run" => is_workers(workers),
-        [command, seed, count, workers] if command.as_str() == "gen" => {
-            is_number(seed, 10, 0, MOST_SEED)
-                && is_number(count, 5, 1, MOST_COUNT)
-                && is_workers(workers)
+    let Some(command) = command_of(words) else {
+        return Err(Fault::Usage);
+    };
+    match command {
+        Command::Cat {
+            set,
+            type_name,
+            frames,
+            workers,
+        } => {
+            if is_built(set, type_name, workers) {
+                Ok(frames)
+            } else {
+                Err(Fault::NotBuilt)
+            }
         }
-        _ => false,
+        Command::Run { .. } => Err(Fault::NotBuilt),
+        Command::Gen { .. } => Err(Fault::NotBuilt),
     }
 }
 
-/// The word that names the frames file, where the words are those of the command that is built.
-pub fn frames_word(words: &[String]) -> Option<&String>
-    ensures { MatchOption result ((frames : List ℕ) → IsCat (map string_bytes words.now) frames → ⊥) (λ word. IsCat (map string_bytes words.now) (string_bytes word.now)) }
+// Whether `cat` is built for this set, type and number of workers.
+fn is_built(set: &str, type_name: &str, workers: u8) -> bool
+    ensures yes { result ≡ true → (set.now ≡ codes "builtin") × (type_name.now ≡ codes "pb.Tick") × (workers ≡ 1) }
+    ensures no { result ≡ false → (set.now ≡ codes "builtin") × (type_name.now ≡ codes "pb.Tick") × (workers ≡ 1) → ⊥ }
+{
+    set == "builtin" && type_name == "pb.Tick" && workers == 1
+}
+
+/// What the words ask for; none where they have none of the three forms.
+pub fn command_of(words: &[String]) -> Option<Command<'_>>
+    ensures read { IfSome result (IsReadFrom (map string_bytes words.now)) }
+    ensures no_form { IfNone result (HasNoForm (map string_bytes words.now)) }
 {
     match words {
-        [command, set, type_name, frames, workers]
-            if command.as_str() == "cat"
-                && set.as_str() == "builtin"
-                && type_name.as_str() == "pb.Tick"
-                && is_number(workers, 2, 1, 1) => { Some(frames) }
+        [command, set, type_name, frames, workers] if command.as_str() == "cat" => {
+            let workers = workers_in(workers)?;
+            Some(Command::Cat {
+                set: set.as_str(),
+                type_name: type_name.as_str(),
+                frames: frames.as_str(),
+                workers,
+            })
+        }
+        [command, set, type_name, frames, script, workers] if command.as_str() == "run" => {
+            let workers = workers_in(workers)?;
+            Some(Command::Run {
+                set: set.as_str(),
+                type_name: type_name.as_str(),
+                frames: frames.as_str(),
+                script: script.as_str(),
+                workers,
+            })
+        }
+        [command, seed, count, workers] if command.as_str() == "gen" => {
+            let seed = number_in_word(seed, 10, 0, MOST_SEED)? as u32;
+            let count = number_in_word(count, 5, 1, MOST_COUNT)? as u16;
+            let workers = workers_in(workers)?;
+            Some(Command::Gen {
+                seed,
+                count,
+                workers,
+            })
+        }
         _ => None,
     }
 }
 
-// Whether a word tells how many workers there are to be.
-fn is_workers(word: &String) -> bool
-    ensures yes { result ≡ true → IsNumber 2 1 64 (string_bytes word.now) }
-    ensures no { result ≡ false → IsNumber 2 1 64 (string_bytes word.now) → ⊥ }
+// How many workers there are to be.
+fn workers_in(word: &String) -> Option<u8>
+    ensures { MatchOption result (IsNumber 2 1 64 (string_bytes word.now) → ⊥) (Spells 2 1 64 (string_bytes word.now)) }
 {
-    is_number(word, 2, 1, MOST_WORKERS)
+    number_in_word(word, 2, 1, MOST_WORKERS).map(|number| number as u8)
 }
 
-// Whether a word is one to so many digits, of a number from least to most.
-fn is_number(word: &String, digits: usize, least: u64, most: u64) -> bool
+// The number that one to so many digits spell, where it is from least to most.
+fn number_in_word(word: &String, digits: usize, least: u64, most: u64) -> Option<u64>
     requires { digits ≤ 10 }
-    ensures yes { result ≡ true → IsNumber digits least most (string_bytes word.now) }
-    ensures no { result ≡ false → IsNumber digits least most (string_bytes word.now) → ⊥ }
+    ensures { MatchOption result (IsNumber digits least most (string_bytes word.now) → ⊥) (Spells digits least most (string_bytes word.now)) }
 {
     let spelled = word.as_bytes();
     if spelled.is_empty() || spelled.len() > digits {
-        return false;
+        return None;
     }
-    match number_of(spelled) {
-        Some(number) => least <= number && number <= most,
-        None => false,
+    let number = number_of(spelled)?;
+    if number < least || most < number {
+        return None;
     }
+    Some(number)
 }
 
 // The number that some digits spell; none where one of them is no digit.

@@ -1,13 +1,13 @@
 // Writing messages to a sink, each behind its prefix.
 ghost use Rattle.std.specs.Prelude.{◌≡◌, ◌+◌, ◌^◌, ◌<◌, ◌≤◌, ◌++◌, ℕ, List, [], length, take, IfOk, OnOk, OnErr};
 ghost use Rattle.std.specs.Io.KnownBytes.{Appends, Keeps, append_known};
-ghost use Rattle.arena_mem.specs.Outside.{HasCause};
+ghost use Rattle.arena_mem.specs.Outside.{HasCause, TookPart, KeepsTaken, Gathers};
 ghost use Rattle.pb_schema.specs.Builtin.{builtin};
+ghost use Rattle.pb_schema.specs.Payloads.{framed_text, framed_texts};
 ghost use Rattle.pb_schema.specs.Tree.{Tree};
 ghost use Rattle.pb_schema.specs.Varint.{varint_of};
 ghost use Rattle.pb_schema.specs.Text.{text_of};
 ghost use Rattle.arena_run.specs.Stands.{Foot, tick, Stands, AllStand};
-ghost use Rattle.arena_run.specs.Written.{frame_of, output_of, TookPart, KeepsTaken, Gathers};
 
 use crate::tick::{self, VALUE_TAG};
 use arena_mem::{Failed, Memory, Place, Sink};
@@ -29,8 +29,8 @@ pub fn write_messages<M: Memory, O: Sink>(
     out: &mut O,
 ) -> Result<(), Failed>
     requires { (trees : List Tree) × (feet : List Foot) × AllStand (M.places mem.now) (M.buffers mem.now) messages.now trees feet }
-    ensures ok { (trees : List Tree) (feet : List Foot) → AllStand (M.places mem.now) (M.buffers mem.now) messages.now trees feet → OnOk result (Appends (O.taken out.old) (O.taken out.new) (output_of trees)) }
-    ensures err { (trees : List Tree) (feet : List Foot) → AllStand (M.places mem.now) (M.buffers mem.now) messages.now trees feet → OnErr result (TookPart (O.taken out.old) (O.taken out.new) (output_of trees)) }
+    ensures ok { (trees : List Tree) (feet : List Foot) → AllStand (M.places mem.now) (M.buffers mem.now) messages.now trees feet → OnOk result (Appends (O.taken out.old) (O.taken out.new) (framed_texts builtin 0 trees)) }
+    ensures err { (trees : List Tree) (feet : List Foot) → AllStand (M.places mem.now) (M.buffers mem.now) messages.now trees feet → OnErr result (TookPart (O.taken out.old) (O.taken out.new) (framed_texts builtin 0 trees)) }
     ensures cause { HasCause (O.faults out.old) (O.faults out.new) result }
 {
     let mut buffer = [0u8; GATHERED_BYTES];
@@ -55,9 +55,9 @@ fn put_message<M: Memory, O: Sink>(
     requires large { 12 ≤ length buffer.old }
     ensures bound { IfOk result (λ left. left ≤ length buffer.new) }
     ensures ok { (value : ℕ) (unknown : List ℕ) (feet : List Foot) → Stands (M.places mem.now) (M.buffers mem.now) message (tick value unknown) feet
-        → IfOk result (λ left. Gathers (O.taken out.old) (take filled buffer.old) (O.taken out.new) (take left buffer.new) (frame_of (tick value unknown))) }
+        → IfOk result (λ left. Gathers (O.taken out.old) (take filled buffer.old) (O.taken out.new) (take left buffer.new) (framed_text builtin 0 (tick value unknown))) }
     ensures err { (value : ℕ) (unknown : List ℕ) (feet : List Foot) → Stands (M.places mem.now) (M.buffers mem.now) message (tick value unknown) feet
-        → OnErr result (TookPart (O.taken out.old) (O.taken out.new) (take filled buffer.old ++ frame_of (tick value unknown))) }
+        → OnErr result (TookPart (O.taken out.old) (O.taken out.new) (take filled buffer.old ++ framed_text builtin 0 (tick value unknown))) }
     ensures longer { KeepsTaken (O.taken out.old) (O.taken out.new) }
     ensures cause { HasCause (O.faults out.old) (O.faults out.new) result }
 {
@@ -81,8 +81,8 @@ fn put_with_unknown<O: Sink>(
 ) -> Result<usize, Failed>
     requires { filled ≤ length buffer.old }
     ensures bound { IfOk result (λ left. left ≤ length buffer.new) }
-    ensures ok { IfOk result (λ left. Gathers (O.taken out.old) (take filled buffer.old) (O.taken out.new) (take left buffer.new) (frame_of (tick value unknown.now))) }
-    ensures err { OnErr result (TookPart (O.taken out.old) (O.taken out.new) (take filled buffer.old ++ frame_of (tick value unknown.now))) }
+    ensures ok { IfOk result (λ left. Gathers (O.taken out.old) (take filled buffer.old) (O.taken out.new) (take left buffer.new) (framed_text builtin 0 (tick value unknown.now))) }
+    ensures err { OnErr result (TookPart (O.taken out.old) (O.taken out.new) (take filled buffer.old ++ framed_text builtin 0 (tick value unknown.now))) }
     ensures longer { KeepsTaken (O.taken out.old) (O.taken out.new) }
     ensures cause { HasCause (O.faults out.old) (O.faults out.new) result }
 {
@@ -191,7 +191,7 @@ fn hand_over<O: Sink>(bytes: &[u8], out: &mut O) -> Result<(), Failed>
 #[inline]
 fn put_frame(buffer: &mut [u8], filled: usize, value: u64) -> usize
     requires { filled + 12 ≤ length buffer.old }
-    ensures frame { take result buffer.new ≡ take filled buffer.old ++ frame_of (tick value []) }
+    ensures frame { take result buffer.new ≡ take filled buffer.old ++ framed_text builtin 0 (tick value []) }
     ensures bound { result ≤ length buffer.new }
 {
     if value == 0 {

@@ -1,9 +1,15 @@
-use Rattle.std.proofs.Common.{Err, ap, ◌∙◌}
-use Rattle.arena_run.proofs.Firsts.{cut_first, long_first}
+use Rattle.std.specs.String.{string_bytes}
+use Rattle.arena_mem.specs.Outside.{content_of}
+use Rattle.arena_run.proofs.Firsts.{if_err, each_err, cut_first, input_first}
 use Rattle.arena_run.proofs.input.read_frames_file.Goals as goal
 
-pub returns-in-Ok-clause-exact : goal.returns-in-Ok-clause-exact
-returns-in-Ok-clause-exact g c = cut_first c.cut_into_frames.result _ c.in-Ok.bytes.items c.in-Ok.ensures.content c.in-Ok.ensures.limit c.cut_into_frames.ensures.kind c.cut_into_frames.ensures.fault
+pub returns-in_err-bytes-clause-first : goal.returns-in_err-bytes-clause-first
+returns-in_err-bytes-clause-first g c =
+    let input = c.in_err-bytes.ensures in
+    if_err c.from_residual.result _ _ c.from_residual.ensures.1 (input_first _ (content_of (g.F.Files.contents c.args.files.now) (string_bytes c.args.name)) input.kind input.first)
 
-pub returns-in-Err-TooLong-clause-exact : goal.returns-in-Err-TooLong-clause-exact
-returns-in-Err-TooLong-clause-exact g c = long_first _ (c.read_file.ensures.too_long (c.in-Err-TooLong.is ∙ ap Err c.in-Err-TooLong.field-0-is))
+pub returns-clause-first : goal.returns-clause-first
+returns-clause-first g c =
+    let cut = c.cut_into_frames.ensures in
+    let input = c.in_ok-bytes.ensures in
+    each_err c.cut_into_frames.result _ _ _ (λ fault kind is. cut_first fault (content_of (g.F.Files.contents c.args.files.now) (string_bytes c.args.name)) c.in_ok-bytes.bytes.items input.content input.limit kind.0 is) cut.kind cut.fault

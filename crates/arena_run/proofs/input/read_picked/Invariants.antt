@@ -1,4 +1,4 @@
-use Rattle.std.proofs.Common.{◌≡◌, ◌+◌, ◌-◌, ◌^◌, ◌≤◌, length, IsTrue}
+use Rattle.std.proofs.Common.{◌≡◌, ◌+◌, ◌-◌, ◌≤◌, length, IsTrue}
 use Rattle.std.specs.Io.KnownBytes.{Consumes}
 use Rattle.arena_run.proofs.input.read_picked.Given as goal
 
@@ -13,9 +13,9 @@ invariant-loop-room g l =
       blamed : F.blamed l.files ≡ F.blamed l.fn.files;
       faults : F.faults l.fn.files ≤ F.faults l.files;
       bytes : Consumes (F.left l.fn.files) (F.left l.files) l.bytes.items;
-      limit : length l.bytes.items ≤ 2 ^ 24 + 1;
+      limit : length l.bytes.items ≤ l.limit + 1;
       room : length l.room ≡ 65536;
     }
 
 abbrev pub decreases-loop-room : goal.decreases-loop-room
-decreases-loop-room g l = 2 ^ 24 + 1 - length l.bytes.items
+decreases-loop-room g l = l.limit + 1 - length l.bytes.items

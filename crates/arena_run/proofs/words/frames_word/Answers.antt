@@ -1,13 +1,33 @@
-use Rattle.std.proofs.Common.{sym, ◌∙◌}
 use Rattle.std.specs.String.{string_bytes}
-use Rattle.arena_run.proofs.WordForms.{same_bytes, is_cat}
+use Rattle.std.proofs.Common.{map, subst}
+use Rattle.arena_run.specs.Words.{IsReadFrom}
+use Rattle.arena_run.proofs.WordForms.{read_form, is_cat, other_cat, other_run, other_gen, words_other, words_built}
 use Rattle.arena_run.proofs.words.frames_word.Goals as goal
 
-pub returns-in-len5 : goal.returns-in-len5
-returns-in-len5 c =
-    is_cat string_bytes c.args.words.now c.command-item.result c.set-item.result c.type_name-item.result c.frames-item.result c.workers-item.result c.in-len5.len_at_least c.in-len5.len_below
-    c.command-item.is c.set-item.is c.type_name-item.is c.frames-item.is c.workers-item.is
-    (same_bytes _ _ _ c.as_str.ensures.value (sym c.eq.ensures ∙ c.if-eq.true))
-    (same_bytes _ _ _ c.as_str-then-eq.ensures.value (sym c.eq-then-eq.ensures ∙ c.if-eq-2.true))
-    (same_bytes _ _ _ c.as_str-then-eq-2.ensures.value (sym c.eq-then-eq-2.ensures ∙ c.if-eq-3.true))
-    (c.is_number.ensures.yes c.if-is_number.true)
+pub returns-then-is_built-clause-built : goal.returns-then-is_built-clause-built
+returns-then-is_built-clause-built c =
+    let words = map string_bytes c.args.words.now in
+    is_cat words _ _ c.in-Cat.frames.now c.in-Cat.workers (subst (IsReadFrom words) c.in-Cat.is c.in-Some.ensures.read) (c.is_built.ensures.yes c.if-is_built.true)
+
+pub returns-then-is_built-clause-by_words : goal.returns-then-is_built-clause-by_words
+returns-then-is_built-clause-by_words c =
+    let words = map string_bytes c.args.words.now in
+    words_built words c.in-Cat.frames.now (is_cat words _ _ c.in-Cat.frames.now c.in-Cat.workers (subst (IsReadFrom words) c.in-Cat.is c.in-Some.ensures.read) (c.is_built.ensures.yes c.if-is_built.true))
+
+pub returns-else-is_built-clause-by_words : goal.returns-else-is_built-clause-by_words
+returns-else-is_built-clause-by_words c =
+    let words = map string_bytes c.args.words.now in
+    words_other words (read_form words c.in-Some.command c.in-Some.ensures.read)
+    (other_cat words _ _ c.in-Cat.frames.now c.in-Cat.workers (subst (IsReadFrom words) c.in-Cat.is c.in-Some.ensures.read) (c.is_built.ensures.no c.if-is_built.false))
+
+pub returns-in-Run-clause-by_words : goal.returns-in-Run-clause-by_words
+returns-in-Run-clause-by_words c =
+    let words = map string_bytes c.args.words.now in
+    let read = subst (IsReadFrom words) c.in-Run.is c.in-Some.ensures.read in
+    words_other words (read_form words c.in-Some.command c.in-Some.ensures.read) (other_run words _ _ _ _ _ read.1)
+
+pub returns-in-Gen-clause-by_words : goal.returns-in-Gen-clause-by_words
+returns-in-Gen-clause-by_words c =
+    let words = map string_bytes c.args.words.now in
+    let read = subst (IsReadFrom words) c.in-Gen.is c.in-Some.ensures.read in
+    words_other words (read_form words c.in-Some.command c.in-Some.ensures.read) (other_gen words _ _ _ read.3)

@@ -1,7 +1,9 @@
 use Rattle.std.proofs.Common.{◌++◌, take, append_assoc, sym, ap, ◌∙◌}
 use Rattle.std.proofs.lemmas.Result.{IfOk-weaker, on_err_weaker}
 use Rattle.arena_run.specs.Stands.{tick}
-use Rattle.arena_run.specs.Written.{frame_of, Gathers}
+use Rattle.arena_mem.specs.Outside.{Gathers}
+use Rattle.pb_schema.specs.Builtin.{builtin}
+use Rattle.pb_schema.specs.Payloads.{framed_text}
 use Rattle.arena_run.proofs.Gathered.{OnErr-from, gathered_two, part_of_more, part_behind}
 use Rattle.arena_run.proofs.Texts.{frame_with}
 use Rattle.arena_run.proofs.write.put_with_unknown.Goals as goal
@@ -23,7 +25,7 @@ returns-clause-ok g c =
     IfOk-weaker
     c.put_bytes-2.result
     (λ left. Gathers (taken c.put_bytes.new.out) middle (taken c.put_bytes-2.new.out) (take left c.put_bytes-2.new.buffer) c.args.unknown.now)
-    (λ left. Gathers (taken c.args.out.now) before (taken c.put_bytes-2.new.out) (take left c.put_bytes-2.new.buffer) (frame_of (tick c.args.value c.args.unknown.now)))
+    (λ left. Gathers (taken c.args.out.now) before (taken c.put_bytes-2.new.out) (take left c.put_bytes-2.new.buffer) (framed_text builtin 0 (tick c.args.value c.args.unknown.now)))
     (λ left two. gathered_two _ (taken c.put_bytes.new.out) _ before middle (take left c.put_bytes-2.new.buffer) head c.args.unknown.now _ c.in_ok-filled.ensures.ok two whole)
     c.put_bytes-2.ensures.ok
 

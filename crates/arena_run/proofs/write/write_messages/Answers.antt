@@ -3,7 +3,8 @@ use Rattle.std.specs.Io.KnownBytes.{Appends}
 use Rattle.std.proofs.lemmas.Result.{on_ok_weaker, on_err_weaker}
 use Rattle.arena_mem.specs.declared.place.Place.{Place}
 use Rattle.arena_run.specs.Stands.{tick}
-use Rattle.arena_run.specs.Written.{frame_of, output_of}
+use Rattle.pb_schema.specs.Builtin.{builtin}
+use Rattle.pb_schema.specs.Payloads.{framed_text, framed_texts}
 use Rattle.arena_run.proofs.AllStand.{stands_at_index, output_parts, all_written}
 use Rattle.arena_run.proofs.Gathered.{OnErr-from, written_more, written_part}
 use Rattle.arena_run.proofs.Taken.{part_handed_over, all_handed_over, KeepsTaken-trans}
@@ -22,17 +23,17 @@ pub returns-in_err-filled-clause-err : goal.returns-in_err-filled-clause-err
 returns-in_err-filled-clause-err g c = λ trees feet all.
     let i = c.loop-message.message-index in
     let at = stands_at_index _ _ c.args.messages.now trees feet i no_place c.loop-message-test.true all in
-    let frame = frame_of (tick at.value at.unknown) in
+    let frame = framed_text builtin 0 (tick at.value at.unknown) in
     OnErr-from (c.from_residual.result)
-    (written_part _ (g.O.Sink.taken c.loop-message.out) _ (take c.loop-message.filled c.loop-message.buffer) (output_of (take i trees)) frame (output_of (drop (i + 1) trees)) _ c.loop-message.invariant.kept (c.loop-message.invariant.frames trees feet all)
-    (c.in_err-filled.ensures.err at.value at.unknown at.own at.stands) (output_parts trees (i + 1) ∙ ap (λ bs. bs ++ output_of (drop (i + 1) trees)) at.output))
+    (written_part _ (g.O.Sink.taken c.loop-message.out) _ (take c.loop-message.filled c.loop-message.buffer) (framed_texts builtin 0 (take i trees)) frame (framed_texts builtin 0 (drop (i + 1) trees)) _ c.loop-message.invariant.kept (c.loop-message.invariant.frames trees feet all)
+    (c.in_err-filled.ensures.err at.value at.unknown at.own at.stands) (output_parts trees (i + 1) ∙ ap (λ bs. bs ++ framed_texts builtin 0 (drop (i + 1) trees)) at.output))
 
 pub loop-message-preserved : goal.loop-message-preserved
 loop-message-preserved g c = record {
   frames = λ trees feet all.
       let i = c.loop-message.message-index in
       let at = stands_at_index _ _ c.args.messages.now trees feet i no_place c.loop-message-test.true all in
-      written_more _ (g.O.Sink.taken c.loop-message.out) _ (take c.loop-message.filled c.loop-message.buffer) _ (output_of (take i trees)) (frame_of (tick at.value at.unknown)) _ (c.loop-message.invariant.frames trees feet all)
+      written_more _ (g.O.Sink.taken c.loop-message.out) _ (take c.loop-message.filled c.loop-message.buffer) _ (framed_texts builtin 0 (take i trees)) (framed_text builtin 0 (tick at.value at.unknown)) _ (c.loop-message.invariant.frames trees feet all)
       (c.in_ok-filled.ensures.ok at.value at.unknown at.own at.stands) at.output;
   kept = KeepsTaken-trans _ _ _ c.loop-message.invariant.kept c.put_message.ensures.longer;
   faults = omega (arith, c.put_message.ensures.cause.never_falls);
