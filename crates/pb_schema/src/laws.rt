@@ -87,21 +87,22 @@ pub fn one_record()
         × (form.size ≡ length r.span) × (record_of form s ≡ r) }
 {}
 
-/// At the root a payload has a tree exactly where it has no fault. At each depth a payload without a fault is cut into
-/// records; each of them that a message field takes holds a payload that has no fault one level deeper, and is at most
-/// 100 levels below the root; and two payloads without a fault have none one behind the other. So wherever a tree
-/// gathers from the records of a payload, at the root or in a message at any level, there are records.
+/// At the root a payload has a tree exactly where its bytes have no fault, which by today's rules is any fault. At each
+/// depth a payload without a fault is cut into records; each of them that a message field takes holds a payload that has
+/// no fault one level deeper, and is at most 100 levels below the root; and two payloads without a fault have none one
+/// behind the other. So wherever a tree gathers from the records of a payload, at the root or in a message at any level,
+/// there are records.
 pub fn a_tree_where_no_fault()
     ensures tree { (schema : Schema) (type_no : ℕ) (s : List ℕ)
-        → IsSome (tree_of schema type_no s) ↔ (fault_of schema type_no 0 s ≡ None) }
-    ensures records { (schema : Schema) (type_no depth : ℕ) (s : List ℕ) → fault_of schema type_no depth s ≡ None
+        → IsSome (tree_of schema type_no s) ↔ (broken_of schema type_no 0 s ≡ None) }
+    ensures records { (schema : Schema) (type_no depth : ℕ) (s : List ℕ) → broken_of schema type_no depth s ≡ None
         → (rs : List Record) × RecordsWithin (most_levels - depth) s rs }
     ensures nested { (schema : Schema) (type_no depth : ℕ) (s : List ℕ) (rs : List Record)
-        → fault_of schema type_no depth s ≡ None → RecordsWithin (most_levels - depth) s rs
+        → broken_of schema type_no depth s ≡ None → RecordsWithin (most_levels - depth) s rs
         → All (λ r. (inner : ℕ) → contents_of schema (fields_of schema type_no) r ≡ Message inner
-        → (depth < most_levels) × (fault_of schema inner (depth + 1) r.payload ≡ None)) rs }
-    ensures together { (schema : Schema) (type_no depth : ℕ) (s t : List ℕ) → fault_of schema type_no depth s ≡ None
-        → fault_of schema type_no depth t ≡ None → fault_of schema type_no depth (s ++ t) ≡ None }
+        → (depth < most_levels) × (broken_of schema inner (depth + 1) r.payload ≡ None)) rs }
+    ensures together { (schema : Schema) (type_no depth : ℕ) (s t : List ℕ) → broken_of schema type_no depth s ≡ None
+        → broken_of schema type_no depth t ≡ None → broken_of schema type_no depth (s ++ t) ≡ None }
 {}
 
 /// A payload that has a tree at a type of a lawful schema has one that a message of that type may be: each value is of
@@ -115,10 +116,10 @@ pub fn decoded_trees_are_fitted()
 /// Behind a payload without a fault other bytes make a whole without one exactly where they have none themselves, and
 /// then the records of the whole are those of the payload and then those of the other bytes.
 pub fn what_stands_behind()
-    ensures fault { (schema : Schema) (type_no depth : ℕ) (x y : List ℕ) → fault_of schema type_no depth x ≡ None
-        → (fault_of schema type_no depth (x ++ y) ≡ None) ↔ (fault_of schema type_no depth y ≡ None) }
-    ensures records { (schema : Schema) (type_no depth : ℕ) (x y : List ℕ) → fault_of schema type_no depth x ≡ None
-        → fault_of schema type_no depth (x ++ y) ≡ None → records_in (most_levels - depth) (x ++ y)
+    ensures fault { (schema : Schema) (type_no depth : ℕ) (x y : List ℕ) → broken_of schema type_no depth x ≡ None
+        → (broken_of schema type_no depth (x ++ y) ≡ None) ↔ (broken_of schema type_no depth y ≡ None) }
+    ensures records { (schema : Schema) (type_no depth : ℕ) (x y : List ℕ) → broken_of schema type_no depth x ≡ None
+        → broken_of schema type_no depth (x ++ y) ≡ None → records_in (most_levels - depth) (x ++ y)
         ≡ records_in (most_levels - depth) x ++ records_in (most_levels - depth) y }
 {}
 
@@ -132,7 +133,7 @@ pub fn kinds_read_what_they_write()
 {}
 
 /// The shape of payloads, with the pieces of its unknown bytes joined at every level, is the tree of the payloads one
-/// behind the other, where none of them has a fault; so for one payload it is the tree of that.
+/// behind the other, by a lawful schema and where none of them has a fault; so for one payload it is the tree of that.
 pub fn shapes_are_trees_in_pieces()
     ensures all { (schema : Schema) (type_no : ℕ) (payloads : List (List ℕ)) → Lawful schema
         → All (λ s. broken_of schema type_no 0 s ≡ None) payloads
@@ -141,8 +142,8 @@ pub fn shapes_are_trees_in_pieces()
         → tree_of schema type_no s ≡ Some t → tree_map concat (shape_of schema type_no (s ∷ [])) ≡ t }
 {}
 
-/// Changing what is unknown in a tree at every level keeps its depth, gives the units by the size of what comes in its
-/// place, and goes with merging where joining does.
+/// Changing what is unknown in a shape at every level keeps its depth, and gives the units by the size of what comes in
+/// its place; joining the pieces goes with merging.
 pub fn unknown_parts_are_changed_alone()
     ensures depth { (f : List (List ℕ) → List ℕ) (t : Shape) → depth_of (tree_map f t) ≡ depth_of t }
     ensures units { (f : List (List ℕ) → List ℕ) (t : Shape)
@@ -156,7 +157,7 @@ pub fn unknown_parts_are_changed_alone()
 /// is bad; a bad one is told exactly where it has that fault and none before it has one.
 pub fn trees_where_none_is_bad()
     ensures trees { (schema : Schema) (type_no : ℕ) (payloads : List (List ℕ))
-        → IsSome (trees_of schema type_no payloads) ↔ All (λ s. fault_of schema type_no 0 s ≡ None) payloads }
+        → IsSome (trees_of schema type_no payloads) ↔ All (λ s. broken_of schema type_no 0 s ≡ None) payloads }
     ensures none { (schema : Schema) (type_no : ℕ) (payloads : List (List ℕ))
         → (bad_payload schema type_no payloads ≡ None) ↔ All (λ s. fault_of schema type_no 0 s ≡ None) payloads }
     ensures first { (schema : Schema) (type_no : ℕ) (payloads : List (List ℕ)) (place : ℕ) (fault : WireFault)
@@ -166,8 +167,10 @@ pub fn trees_where_none_is_bad()
         × All (λ s. fault_of schema type_no 0 s ≡ None) (take place payloads)) }
 {}
 
-/// A message of a type, with one entry for each of its fields, holds at a field what was put there; at any other field
-/// it holds what it held, or nothing where the other field is a member of the same oneof and a value was put.
+/// A message of a type, with one entry for each of its fields, holds at a field what was put there (`here`); at any other
+/// field it holds what it held, or nothing where the other field is a member of the same oneof and a value was put
+/// (`elsewhere`). The entries stay as many, and the message gets no deeper than it was and what was put is (`entries`,
+/// `depth`).
 pub fn what_is_put_is_held()
     ensures here { (schema : Schema) (type_no number : ℕ) (field : FieldType) (held : Held) (t : Tree)
         → field_at schema type_no number ≡ Some field
@@ -199,9 +202,9 @@ pub fn later_payloads_count_more()
     ensures cleanups { GrowsInParts cleanups }
 {}
 
-/// Merging the empty message of a type changes no message of that type, on either side. Of three messages it matters which
-/// two are merged first, though: where the one in the middle sets another member of a oneof than the other two, merging
-/// from the left keeps the last one's message alone, and from the right it keeps the first and the last merged.
+/// Merging the empty message of a type changes no message of that type, on either side. Merging isn't associative, as a
+/// worked value shows (`proofs/MergeExamples.antt`): where the message in the middle sets another member of a oneof than
+/// the other two, merging from the left keeps the last one's alone, and from the right the first and the last merged.
 pub fn empty_merges_to_the_same()
     ensures into { (schema : Schema) (type_no : ℕ) (t : Tree) → Fitted schema type_no t
         → merge_of schema type_no (empty schema type_no) t ≡ t }

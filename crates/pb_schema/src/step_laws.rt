@@ -9,7 +9,7 @@ ghost use Rattle.pb_schema.specs.declared.wire_fault.WireKind.TheVariants.{Cut};
 ghost use Rattle.pb_schema.specs.Reads.{moved};
 ghost use Rattle.pb_schema.specs.Fits.{fields_of};
 ghost use Rattle.pb_schema.specs.Walk.{record_left};
-ghost use Rattle.pb_schema.specs.Fault.{fault_of, most_levels};
+ghost use Rattle.pb_schema.specs.Broken.{broken_of, most_levels};
 ghost use Rattle.pb_schema.specs.Tree.{Tree, Shape, tree_map};
 ghost use Rattle.pb_schema.specs.Empty.{empty_with};
 ghost use Rattle.pb_schema.specs.TreeOf.{tree_of};
@@ -39,22 +39,22 @@ pub fn one_record_more()
 /// at the front has a fault, of its form, its depth or its contents, the bytes have that. So bytes have a fault exactly
 /// where such records stand in front of a record that has it.
 pub fn first_fault()
-    ensures behind { (schema : Schema) (type_no depth : ℕ) (x y : List ℕ) → fault_of schema type_no depth x ≡ None
-        → fault_of schema type_no depth (x ++ y)
-        ≡ option_map (moved (length x)) (fault_of schema type_no depth y) }
+    ensures behind { (schema : Schema) (type_no depth : ℕ) (x y : List ℕ) → broken_of schema type_no depth x ≡ None
+        → broken_of schema type_no depth (x ++ y)
+        ≡ option_map (moved (length x)) (broken_of schema type_no depth y) }
     ensures head { (schema : Schema) (type_no depth : ℕ) (s : List ℕ) (fault : WireFault) → s ≢ []
         → record_left schema (most_levels - depth) (fields_of schema type_no) 0 s ≡ Err fault
-        → fault_of schema type_no depth s ≡ Some fault }
+        → broken_of schema type_no depth s ≡ Some fault }
     ensures exact { (schema : Schema) (type_no depth : ℕ) (s : List ℕ) (fault : WireFault)
-        → (fault_of schema type_no depth s ≡ Some fault)
-        ↔ ((x : List ℕ) × (y : List ℕ) × (own : WireFault) × (s ≡ x ++ y) × (fault_of schema type_no depth x ≡ None)
+        → (broken_of schema type_no depth s ≡ Some fault)
+        ↔ ((x : List ℕ) × (y : List ℕ) × (own : WireFault) × (s ≡ x ++ y) × (broken_of schema type_no depth x ≡ None)
         × (y ≢ []) × (record_left schema (most_levels - depth) (fields_of schema type_no) 0 y ≡ Err own)
         × (fault ≡ moved (length x) own)) }
 {}
 
 /// A front of bytes without a fault has no fault, or is cut.
 pub fn a_prefix_is_sound_or_cut()
-    ensures { (schema : Schema) (type_no depth : ℕ) (x y : List ℕ) → fault_of schema type_no depth (x ++ y) ≡ None
-        → (fault_of schema type_no depth x ≡ None)
-        ⊎ ((byte : ℕ) × (fault_of schema type_no depth x ≡ Some (record { kind = Cut; byte = byte }))) }
+    ensures { (schema : Schema) (type_no depth : ℕ) (x y : List ℕ) → broken_of schema type_no depth (x ++ y) ≡ None
+        → (broken_of schema type_no depth x ≡ None)
+        ⊎ ((byte : ℕ) × (broken_of schema type_no depth x ≡ Some (record { kind = Cut; byte = byte }))) }
 {}
