@@ -127,6 +127,7 @@ module _ {V : Type 0} (cd : Coded V) (m : Meter V) (list : ArenaList V) (fit : A
         seen_is = ap (λ (v : View Mark). v.seen) view_is ∙ nodes_marked cd m linked;
         seen_own = seen_own marks s.seated;
         base_is = ap (λ (v : View Mark). v.base) view_is;
+        opening = (e, is, view_is);
       }
 
   module _ (linked' spares' : List (Entry V)) (callers : List ℕ) (done : List (Entry V)) (seats : List ListSeat) where

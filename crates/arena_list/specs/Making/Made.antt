@@ -58,6 +58,8 @@ module _ {V : Type 0} (c : Coded V) (m : Meter V) where
     pub seen_is : (view s).seen ≡ map node_of linked
     pub seen_own : HasSeenOwn (view s)
     pub base_is : (view s).base ≡ marked_founding c m (founding_of list)
+    -- its whole view: no node is noted, no other seat came to it, and of all used sums its own alone was shown
+    pub opening : (e : Entry V) × (entry_of (linked ++ spares) caller ≡ Some e) × (view s ≡ settled marks (claimed_view (marked_founding c m (founding_of list)) caller) (mark c m e.part))
 
   -- a first seat for each of these callers, in their order
   pub record AreFirst (list : ArenaList V) (linked spares : List (Entry V)) (callers : List ℕ) (seats : List ListSeat) : Type 0 where

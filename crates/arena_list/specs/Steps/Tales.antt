@@ -40,8 +40,8 @@ greater (x ∷ xs) (y ∷ ys) = max x y ∷ greater xs ys
 abbrev pub longer : List Node → List Node → List Node
 longer xs ys = if nat_lt (length xs) (length ys) then ys else xs
 
-abbrev pub untold : {A : Type 0} → GhostList A
-untold = record { marker = record {}; items = [] }
+abbrev pub no_items : {A : Type 0} → GhostList A
+no_items = record { marker = record {}; items = [] }
 
 -- ---- what a step tells
 module _ {V : Type 0} where
@@ -90,7 +90,7 @@ module _ {V : Type 0} where
   both v w = record { hands = v.hands ++ w.hands; seen = longer v.seen w.seen; list_steps = v.list_steps + w.list_steps; sizes = greater v.sizes w.sizes; base = v.base; pasts = v.seen ∷ w.seen ∷ (v.pasts ++ w.pasts) }
 
   abbrev pub spent : View V
-  spent = record { hands = []; seen = []; list_steps = 0; sizes = replicate slot_count 0; base = record { life = 0; linked = untold; spare = untold; callers = untold }; pasts = [] }
+  spent = record { hands = []; seen = []; list_steps = 0; sizes = replicate slot_count 0; base = record { life = 0; linked = no_items; spare = no_items; callers = no_items }; pasts = [] }
 
   -- the view of a seat that has one
   abbrev pub sole : List (View V) → View V
