@@ -3,7 +3,7 @@
 //! It stands between the parts, which each of several callers fills alone, and the arena that is shared by threads.
 //! Its contract, over every interleaving of steps: the list is one list that only grows, each caller has one slot in it
 //! or beside it, and the value of a caller with a seat is in the caller's slot or out with that seat. The values of
-//! linked callers without a seat lie with the list, where no step reaches them. No call waits.
+//! linked callers without a seat lie with the list, where no step reaches them. That no call waits is seen in its code.
 #![tactic(auto)]
 
 #[cfg(test)]

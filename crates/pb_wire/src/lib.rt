@@ -1,8 +1,9 @@
 //! Reading and writing the wire format: varints, tags, records with the groups in them, and the frames of a file.
 //!
 //! It stands on the definitions of `pb_schema`, and the parsers and writers of messages stand on it. Its contract is
-//! exact both ways: each reader answers what the definitions find at that place, or exactly the first fault, with its
-//! kind and its byte; each writer gives the shortest spelling.
+//! exact both ways: each `read_` call answers what the definitions find at that place, or exactly the first fault, with its
+//! kind and its byte; each `find_` call the same, or nothing exactly where there is a fault; each writer gives the shortest
+//! spelling.
 #![tactic(auto)]
 
 mod find;
