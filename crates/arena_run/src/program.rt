@@ -78,8 +78,9 @@ pub fn run<F: Files, O: Sink>(
     // And nothing else is in the arena.
     ensures only { IsParsed result.fault → OfTrees (map string_bytes words.now) (F.contents files.old) (λ trees. how_many (places_of result.arena) (buffers_of result.arena) ≡ sum_by foot_count trees) }
 
-    // Whatever the files tell, the registers stand for trees, and what the sink took is the text of these.
-    ensures stand { IsParsed result.fault → (trees : List Tree) × StandApart (places_of result.arena) (buffers_of result.arena) result.registers.items trees }
+    // Whatever the files tell, the registers stand for trees, nothing else is in the arena, and what the sink took is the
+    // text of these.
+    ensures stand { IsParsed result.fault → (trees : List Tree) × StandApart (places_of result.arena) (buffers_of result.arena) result.registers.items trees × (how_many (places_of result.arena) (buffers_of result.arena) ≡ sum_by foot_count trees) }
     ensures wrote { (trees : List Tree) → StandApart (places_of result.arena) (buffers_of result.arena) result.registers.items trees → IfNone result.fault (Appends (O.taken out.old) (O.taken out.new) (framed_texts builtin 0 trees)) }
     ensures wrote_part { (trees : List Tree) → StandApart (places_of result.arena) (buffers_of result.arena) result.registers.items trees → result.fault ≡ Some Fault.WriteFault → TookPart (O.taken out.old) (O.taken out.new) (framed_texts builtin 0 trees) }
 

@@ -26,6 +26,13 @@ returns-clause-only g c = λ parsed.
     let no_buffers = unused_keeps_none c.args.arena c.requires.no_buffers in
     of_trees (map string_bytes c.args.words.now) (g.F.Files.contents c.args.files.now) _ _ (λ trees alone. omega (arith, alone.only, no_places, no_buffers)) (c.cat-fault.ensures.trees parsed)
 
+pub returns-clause-stand : goal.returns-clause-stand
+returns-clause-stand g c = λ parsed.
+    let no_places = unused_has_none c.args.arena c.requires.no_placements in
+    let no_buffers = unused_keeps_none c.args.arena c.requires.no_buffers in
+    let standing = c.cat-fault.ensures.stand parsed in
+    (standing.0, standing.1.apart, omega (arith, standing.1.only, no_places, no_buffers))
+
 pub returns-clause-complete : goal.returns-clause-complete
 returns-clause-complete g c = λ frames content is_cat found sound files_still sink_still.
     let by_file = c.cat-fault.ensures.by_file in
