@@ -24,6 +24,7 @@ pub mod ShapeLaws
 pub mod AppendLaws
 pub mod MovedLaws
 pub mod PrefixLaws
+pub mod TextCuts
 pub mod KindLaws
 pub mod CostLaws
 pub mod PutLaws
