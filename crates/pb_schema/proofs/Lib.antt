@@ -25,6 +25,8 @@ pub mod AppendLaws
 pub mod MovedLaws
 pub mod PrefixLaws
 pub mod TextCuts
+pub mod PutText
+pub mod AppendedText
 pub mod KindLaws
 pub mod CostLaws
 pub mod PutLaws
