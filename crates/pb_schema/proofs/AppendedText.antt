@@ -1,6 +1,6 @@
 -- A text appended to a payload merges: what its records, put one after another, leave in each field is what merging the text's tree leaves there.
-use Rattle.std.proofs.Common.{◌≡◌, ◌≢◌, ◌⊎◌, inl, inr, ⊎_elim, ℕ, zero, suc, ◌+◌, ◌≤◌, List, [], ◌∷◌, ◌++◌, Bool, true, false, cond, eqb, ◌&&◌, ◌||◌, Option, None, Some, refl, sym, ap, ◌∙◌, subst, arith, append-nil}
-use Rattle.std.specs.Prelude.{IsSome, IsFalse, flat_map}
+use Rattle.std.proofs.Common.{◌≡◌, ◌≢◌, ◌⊎◌, inl, inr, ℕ, zero, suc, ◌+◌, List, [], ◌∷◌, ◌++◌, Bool, true, false, cond, eqb, ◌&&◌, ◌||◌, Some, refl, sym, ap, ◌∙◌, subst}
+use Rattle.std.specs.Prelude.{IsSome, flat_map}
 use Rattle.std.specs.List.{fold, list_any}
 use Rattle.std.proofs.lemmas.Bool.{false≢true, eq-eqb, eqb-true}
 use Rattle.std.proofs.lemmas.List.Sums.{fold-append}
@@ -9,6 +9,7 @@ use Rattle.pb_schema.specs.declared.kind.Card.TheVariants as cards
 use Rattle.pb_schema.specs.declared.kind.FieldType.{FieldType}
 use Rattle.pb_schema.specs.declared.schema.MessageType.{MessageType}
 use Rattle.pb_schema.specs.declared.schema.Schema.{Schema}
+use Rattle.pb_schema.specs.declared.wire_fault.WireKind.TheVariants.{TooDeep}
 use Rattle.pb_schema.specs.Kinds.{ValueType, Scalar, Characters, Octets, Nested, value_type_of, is_number}
 use Rattle.pb_schema.specs.Cards.{is_member, is_packed, is_repeated}
 use Rattle.pb_schema.specs.Fits.{takes, is_taken, is_packable, wire_of, fields_among, fields_of}
@@ -16,21 +17,21 @@ use Rattle.pb_schema.specs.Records.{Record}
 use Rattle.pb_schema.specs.Broken.{most_levels}
 use Rattle.pb_schema.specs.Tree.{Held, Nothing, One, Many, Tree, Message, ValueList, NoValues, ValueAnd, HeldList, NoFields, FieldAnd}
 use Rattle.pb_schema.specs.Merge.{is_set, sets_member, is_replaced, held_merged, fields_merged, message_merged, merge_of}
-use Rattle.pb_schema.specs.TreeOf.{is_of_oneof, unknown_in, unknown_of, records_in, tree_of}
+use Rattle.pb_schema.specs.TreeOf.{is_of_oneof, unknown_of, records_in, tree_of}
 use Rattle.pb_schema.specs.Text.{values_text, message_text, text_of}
 use Rattle.pb_schema.specs.Fitted.{IsHeldBy, IsAlone, HeldFits, FieldsFit, MessageFits, Fitted, NoneTaken}
 use Rattle.pb_schema.specs.Lawful.{NumbersAscend, CardAllowed, FieldsAllowed, TypesAllowed, Lawful}
-use Rattle.pb_schema.specs.Put.{Onto, other_put, held_put, fields_put, put, read_into, tree_read}
+use Rattle.pb_schema.specs.Put.{Onto, other_put, held_put, fields_put, put, read_into}
 use Rattle.pb_schema.proofs.FormLaws.{not_ok}
 use Rattle.pb_schema.proofs.FitsLaws.{taken_by, not_taken}
 use Rattle.pb_schema.proofs.Runs.{Each}
-use Rattle.pb_schema.proofs.SoundRecords.{Holds, Sound}
-use Rattle.pb_schema.proofs.Gathering.{Own, owns, EachField, others, Base, Taken, TakenIn, taken, Fine, message_fine}
+use Rattle.pb_schema.proofs.SoundRecords.{Sound}
+use Rattle.pb_schema.proofs.Gathering.{Own, owns, EachField, others, Base, Taken, taken, message_fine}
 use Rattle.pb_schema.proofs.FaultLaws.{no_fault_then}
 use Rattle.pb_schema.proofs.FittedLaws.{AllAscend, all_ascend, each_base, sound_records, fine_sound, no_fault_sound, decoded_fits}
 use Rattle.pb_schema.proofs.AppendLaws.{fault_behind}
-use Rattle.pb_schema.proofs.TextCuts.{IsThis, OfValue, OfList, OfPacked, OfMany, OfHeld, Parts, parts_cut}
-use Rattle.pb_schema.proofs.PutText.{behind, Merges, FineBy, column, put_other, Mine, PacksNumbers, own_field, value_after, merged_after, nothing_more}
+use Rattle.pb_schema.proofs.TextCuts.{OfList, OfPacked, OfMany, OfHeld, Parts, parts_cut}
+use Rattle.pb_schema.proofs.PutText.{behind, Merges, FineBy, column, put_other, Mine, PacksNumbers, own_field}
 use Rattle.pb_schema.proofs.PutLaws.{tree_more}
 
 -- THE RECORDS OF A FIELD ARE ITS OWN
@@ -357,3 +358,185 @@ there_joined schema field first fields more held theirs other stands h i alone =
     by cards.Explicit e h i = refl
     by (cards.Repeated packed) e h i = refl
     by (cards.Member oneof) e h i = member oneof e h i (is_member oneof first.card) (is_set other) refl refl
+
+-- A FIELD OF THE TYPE
+
+stand_is_in : (field : FieldType) (theirs : Held) (fields : List FieldType) (more : HeldList) → StandIn field theirs fields more → IsIn field fields
+stand_is_in field theirs [] more stands = absurd stands
+stand_is_in field theirs (x ∷ fields) NoFields stands = absurd stands
+stand_is_in field theirs (x ∷ fields) (FieldAnd held more) (inl same) = inl same.0
+stand_is_in field theirs (x ∷ fields) (FieldAnd held more) (inr stands) = inr (stand_is_in field theirs fields more stands)
+
+cleared_held : (card other : Card) (held theirs : Held) → IsHeldBy card held → IsHeldBy card (cond (cleared_by card other theirs) Nothing held)
+cleared_held cards.Implicit other held theirs h = h
+cleared_held cards.Explicit other held theirs h = h
+cleared_held (cards.Repeated packed) other held theirs h = h
+cleared_held (cards.Member oneof) other held theirs h = pick (is_member oneof other && is_set theirs)
+  where
+    pick : (t : Bool) → IsHeldBy (cards.Member oneof) (cond t Nothing held)
+    pick true = tt
+    pick false = h
+
+cleared_fits : (schema : Schema) (field : FieldType) (t : Bool) (held : Held) → HeldFits schema field held → HeldFits schema field (cond t Nothing held)
+cleared_fits schema field true held holds = tt
+cleared_fits schema field false held holds = holds
+
+here_field : (schema : Schema) (left : ℕ) (onto : Onto (List ℕ)) → Merges schema left onto → (all : List FieldType) → NumbersAscend 1 all → (unknown : List ℕ) (least : ℕ) (x : FieldType) (fields : List FieldType) → NumbersAscend least (x ∷ fields) → Along schema all (x ∷ fields) → (theirs : Held) (more : HeldList) → FieldsFit schema (x ∷ fields) (FieldAnd theirs more)
+    → (held : Held) → IsHeldBy x.card held → HeldFits schema x held → (rs : List Record) → Each (Base schema left all) rs → Parts schema all unknown (x ∷ fields) (FieldAnd theirs more) rs
+    → column schema onto all x held rs ≡ held_merged behind schema x (is_replaced x.card (x ∷ fields) (FieldAnd theirs more)) held theirs
+here_field schema left onto merges all ascend unknown least x fields numbers along theirs more fits held h holds rs base parts =
+    let mine = parts.0 in
+    let rest = parts.1 in
+    let own = each_in (Own schema all) x all (owns schema 1 all ascend) along.inside.0 in
+    let each = (each_split (Base schema left all) mine rest (subst (Each (Base schema left all)) parts.2 base)).0 in
+    let taken = each_mine schema left all x own mine each (of_taken schema x along.packs.0 theirs mine parts.3) in
+    ap (column schema onto all x held) parts.2
+    ∙ (fold-append (λ h r. held_put schema [] onto all r x h) held mine rest
+    ∙ (ap (λ h. column schema onto all x h rest) (own_field schema left onto merges all x along.packs.0 held h holds theirs fits.0 fits.1 mine parts.3 taken)
+    ∙ (outside schema onto all ascend x along.inside.0 unknown fields (others x fields numbers.2) (along_more schema all x fields along) more fits.3 (held_merged behind schema x false held theirs) rest parts.4
+    ∙ here_joined schema x x fields more held theirs x.card h fits.0 fits.2)))
+
+inside_field : (schema : Schema) (left : ℕ) (onto : Onto (List ℕ)) → Merges schema left onto → (all : List FieldType) → NumbersAscend 1 all → (unknown : List ℕ) (least : ℕ) (fields : List FieldType) → NumbersAscend least fields → Along schema all fields → (more : HeldList) → FieldsFit schema fields more
+    → (field : FieldType) (theirs : Held) → StandIn field theirs fields more → IsHeldBy field.card theirs → (held : Held) → IsHeldBy field.card held → HeldFits schema field held → (rs : List Record) → Each (Base schema left all) rs → Parts schema all unknown fields more rs
+    → column schema onto all field held rs ≡ held_merged behind schema field (is_replaced field.card fields more) held theirs
+inside_field schema left onto merges all ascend unknown least [] numbers along more fits field theirs stands i held h holds rs base parts = absurd stands
+inside_field schema left onto merges all ascend unknown least (x ∷ fields) numbers along NoFields fits field theirs stands i held h holds rs base parts = absurd stands
+inside_field schema left onto merges all ascend unknown least (x ∷ fields) numbers along (FieldAnd other more) fits field theirs (inl same) i held h holds rs base parts =
+    let there = here_field schema left onto merges all ascend unknown least x fields numbers along other more fits held (subst (λ (f : FieldType). IsHeldBy f.card held) same.0 h) (subst (λ f. HeldFits schema f held) same.0 holds) rs base parts in
+    subst (λ k. column schema onto all field held rs ≡ held_merged behind schema field (is_replaced field.card (x ∷ fields) (FieldAnd other more)) held k) (sym same.1)
+    (subst (λ (f : FieldType). column schema onto all f held rs ≡ held_merged behind schema f (is_replaced f.card (x ∷ fields) (FieldAnd other more)) held other) (sym same.0) there)
+inside_field schema left onto merges all ascend unknown least (x ∷ fields) numbers along (FieldAnd other more) fits field theirs (inr stands) i held h holds rs base parts =
+    let mine = parts.0 in
+    let rest = parts.1 in
+    let cleared = cond (cleared_by field.card x.card other) Nothing held in
+    let differ : field.number ≢ x.number = λ same. each_in (λ f. x.number ≢ f.number) field fields (others x fields numbers.2) (stand_is_in field theirs fields more stands) (sym same) in
+    let each = (each_split (Base schema left all) mine rest (subst (Each (Base schema left all)) parts.2 base)).1 in
+    ap (column schema onto all field held) parts.2
+    ∙ (fold-append (λ h r. held_put schema [] onto all r field h) held mine rest
+    ∙ (ap (λ h. column schema onto all field h rest) (other_field schema onto all ascend field x differ along.inside.0 held other fits.0 mine parts.3 (of_taken schema x along.packs.0 other mine parts.3))
+    ∙ (inside_field schema left onto merges all ascend unknown (x.number + 1) fields numbers.2 (along_more schema all x fields along) more fits.3 field theirs stands i cleared (cleared_held field.card x.card held other h) (cleared_fits schema field (cleared_by field.card x.card other) held holds) rest each parts.4
+    ∙ there_joined schema field x fields more held theirs other stands h i fits.2)))
+
+-- ALL FIELDS
+
+abbrev columns : Schema → Onto (List ℕ) → List FieldType → List Record → List FieldType → HeldList → HeldList
+columns schema onto all rs (field ∷ fields) (FieldAnd held rest) = FieldAnd (column schema onto all field held rs) (columns schema onto all rs fields rest)
+columns schema onto all rs _ others = others
+
+columns_none : (schema : Schema) (onto : Onto (List ℕ)) (all fields : List FieldType) (held : HeldList) → held ≡ columns schema onto all [] fields held
+columns_none schema onto all [] NoFields = refl
+columns_none schema onto all [] (FieldAnd held rest) = refl
+columns_none schema onto all (field ∷ fields) NoFields = refl
+columns_none schema onto all (field ∷ fields) (FieldAnd held rest) = ap (FieldAnd held) (columns_none schema onto all fields rest)
+
+columns_put : (schema : Schema) (onto : Onto (List ℕ)) (all : List FieldType) (r : Record) (rs : List Record) (fields : List FieldType) (held : HeldList) → columns schema onto all rs fields (fields_put schema [] onto all r fields held) ≡ columns schema onto all (r ∷ rs) fields held
+columns_put schema onto all r rs [] NoFields = refl
+columns_put schema onto all r rs [] (FieldAnd held rest) = refl
+columns_put schema onto all r rs (field ∷ fields) NoFields = refl
+columns_put schema onto all r rs (field ∷ fields) (FieldAnd held rest) = ap (FieldAnd (column schema onto all field held (r ∷ rs))) (columns_put schema onto all r rs fields rest)
+
+-- putting records is putting them into each field by itself
+put_columns : (schema : Schema) (onto : Onto (List ℕ)) (all : List FieldType) (rs : List Record) (held : HeldList) → fold (put schema [] onto all) held rs ≡ columns schema onto all rs all held
+put_columns schema onto all [] held = columns_none schema onto all all held
+put_columns schema onto all (r ∷ rs) held = put_columns schema onto all rs (put schema [] onto all held r) ∙ columns_put schema onto all r rs all held
+
+merged_columns : (schema : Schema) (left : ℕ) (onto : Onto (List ℕ)) → Merges schema left onto → (all : List FieldType) → NumbersAscend 1 all → Along schema all all → (unknown : List ℕ) (whole : HeldList) → FieldsFit schema all whole → (rs : List Record) → Each (Base schema left all) rs → Parts schema all unknown all whole rs
+    → (fields : List FieldType) (held theirs : HeldList) → FieldsFit schema fields held → FieldsFit schema fields theirs → ((field : FieldType) (k : Held) → StandIn field k fields theirs → StandIn field k all whole)
+    → columns schema onto all rs fields held ≡ fields_merged behind schema all whole fields held theirs
+merged_columns schema left onto merges all ascend along unknown whole fits rs base parts [] NoFields theirs f g stands = refl
+merged_columns schema left onto merges all ascend along unknown whole fits rs base parts [] (FieldAnd held rest) theirs f g stands = absurd f
+merged_columns schema left onto merges all ascend along unknown whole fits rs base parts (field ∷ fields) NoFields theirs f g stands = absurd f
+merged_columns schema left onto merges all ascend along unknown whole fits rs base parts (field ∷ fields) (FieldAnd held rest) NoFields f g stands = absurd g
+merged_columns schema left onto merges all ascend along unknown whole fits rs base parts (field ∷ fields) (FieldAnd held rest) (FieldAnd other more) f g stands =
+    ap (λ k. FieldAnd k (columns schema onto all rs fields rest)) (inside_field schema left onto merges all ascend unknown 1 all ascend along whole fits field other (stands field other (inl (refl, refl))) g.0 held f.0 f.1 rs base parts)
+    ∙ ap (FieldAnd (held_merged behind schema field (is_replaced field.card all whole) held other)) (merged_columns schema left onto merges all ascend along unknown whole fits rs base parts fields rest more f.3 g.3 (λ x k there. stands x k (inr there)))
+
+-- UNKNOWN BYTES
+
+is_taken_in : (schema : Schema) (field : FieldType) (r : Record) → takes schema field r ≡ true → (fields : List FieldType) → IsIn field fields → is_taken schema fields r ≡ true
+is_taken_in schema field r e [] is = absurd is
+is_taken_in schema field r e (x ∷ fields) (inl same) = ap (λ b. b || is_taken schema fields r) (subst (λ f. takes schema f r ≡ true) same e)
+is_taken_in schema field r e (x ∷ fields) (inr is) = or_true (takes schema x r) (is_taken schema fields r) (is_taken_in schema field r e fields is)
+
+taken_adds_none : (schema : Schema) (all : List FieldType) (field : FieldType) → IsIn field all → (mine rest : List Record) → AreTaken schema field mine → unknown_of schema all (mine ++ rest) ≡ unknown_of schema all rest
+taken_adds_none schema all field is [] rest are = refl
+taken_adds_none schema all field is (r ∷ mine) rest are =
+    ap (λ b. cond b [] r.span ++ unknown_of schema all (mine ++ rest)) (is_taken_in schema field r are.0 all is) ∙ taken_adds_none schema all field is mine rest are.1
+
+untaken_adds_all : (schema : Schema) (all : List FieldType) (rs : List Record) → NoneTaken schema all rs → unknown_of schema all rs ≡ flat_map (λ r. r.span) rs
+untaken_adds_all schema all [] none = refl
+untaken_adds_all schema all (r ∷ rs) none = ap (λ b. cond b [] r.span ++ unknown_of schema all rs) none.0 ∙ ap (λ s. r.span ++ s) (untaken_adds_all schema all rs none.1)
+
+unknown_parts : (schema : Schema) (all : List FieldType) (unknown : List ℕ) (fields : List FieldType) → Along schema all fields → (held : HeldList) (rs : List Record) → Parts schema all unknown fields held rs → unknown_of schema all rs ≡ unknown
+unknown_parts schema all unknown [] along NoFields rs parts = untaken_adds_all schema all rs parts.0 ∙ parts.1
+unknown_parts schema all unknown [] along (FieldAnd held rest) rs parts = absurd parts
+unknown_parts schema all unknown (x ∷ fields) along NoFields rs parts = absurd parts
+unknown_parts schema all unknown (x ∷ fields) along (FieldAnd held rest) rs parts =
+    ap (unknown_of schema all) parts.2
+    ∙ (taken_adds_none schema all x along.inside.0 parts.0 parts.1 (of_taken schema x along.packs.0 held parts.0 parts.3)
+    ∙ unknown_parts schema all unknown fields (along_more schema all x fields along) rest parts.1 parts.4)
+
+-- MESSAGES
+
+level_merges : (schema : Schema) (left : ℕ) (onto : Onto (List ℕ)) → Merges schema left onto → (all : List FieldType) → NumbersAscend 1 all → Along schema all all → (held : HeldList) (before : List ℕ) (theirs : HeldList) (unknown : List ℕ) → FieldsFit schema all held → MessageFits schema all (Message theirs unknown) → Sound schema left all (message_text schema all (Message theirs unknown))
+    → Message (fold (put schema [] onto all) held (records_in left (message_text schema all (Message theirs unknown)))) (before ++ unknown_of schema all (records_in left (message_text schema all (Message theirs unknown)))) ≡ message_merged behind schema all (Message held before) (Message theirs unknown)
+level_merges schema left onto merges all ascend along held before theirs unknown f fits sound =
+    let rs = sound.rs in
+    let s = message_text schema all (Message theirs unknown) in
+    let parts = parts_cut schema left all unknown fits.1 all theirs fits.0 rs sound.are in
+    let base = each_base schema left all rs s sound.are sound.hold in
+    ap (λ qs. Message (fold (put schema [] onto all) held qs) (before ++ unknown_of schema all qs)) (sound_records schema left all s sound)
+    ∙ (ap (λ h. Message h (before ++ unknown_of schema all rs)) (put_columns schema onto all rs held ∙ merged_columns schema left onto merges all ascend along unknown theirs fits.0 rs base parts all held theirs f fits.0 (λ x k there. there))
+    ∙ ap (λ u. Message (fields_merged behind schema all theirs all held theirs) (before ++ u)) (unknown_parts schema all unknown all along theirs rs parts))
+
+abbrev AllAlong : Schema → Type 0
+AllAlong schema = (type_no : ℕ) → Along schema (fields_of schema type_no) (fields_of schema type_no)
+
+text_into : (schema : Schema) → AllAscend schema → AllAlong schema → (left type_no : ℕ) (t u : Tree) → MessageFits schema (fields_of schema type_no) t → MessageFits schema (fields_of schema type_no) u → Sound schema left (fields_of schema type_no) (message_text schema (fields_of schema type_no) u)
+    → read_into behind [] schema left (fields_of schema type_no) t (message_text schema (fields_of schema type_no) u) ≡ message_merged behind schema (fields_of schema type_no) t u
+text_into schema ascend along zero type_no (Message held before) (Message theirs unknown) f fits sound =
+    level_merges schema 0 (λ inner t s. t) (λ inner t u f g fine. not_ok (record { kind = TooDeep; byte = fine.0 }) fine.2.0 fine.2.1) (fields_of schema type_no) (ascend type_no) (along type_no) held before theirs unknown f.0 fits sound
+text_into schema ascend along (suc left) type_no (Message held before) (Message theirs unknown) f fits sound =
+    level_merges schema (suc left) (λ inner t s. read_into behind [] schema left (fields_of schema inner) t s)
+    (λ inner t u f g fine. text_into schema ascend along left inner t u f g (fine_sound schema left inner (message_text schema (fields_of schema inner) u) fine))
+    (fields_of schema type_no) (ascend type_no) (along type_no) held before theirs unknown f.0 fits sound
+
+-- LAWFUL SCHEMAS
+
+packs_by : (oneofs : ℕ) (type : ValueType) (card : Card) → CardAllowed oneofs type card → is_packed card ≡ true → is_number type ≡ true
+packs_by oneofs type cards.Implicit p e = absurd (false≢true e)
+packs_by oneofs type cards.Explicit p e = absurd (false≢true e)
+packs_by oneofs type (cards.Member oneof) p e = absurd (false≢true e)
+packs_by oneofs type (cards.Repeated packed) p e = p e
+
+packs_all : (types oneofs : ℕ) (fields : List FieldType) → FieldsAllowed types oneofs fields → EachField PacksNumbers fields
+packs_all types oneofs [] p = tt
+packs_all types oneofs (field ∷ fields) p = (packs_by oneofs (value_type_of field.kind) field.card p.1, packs_all types oneofs fields p.2)
+
+packs_among : (count : ℕ) (types : List MessageType) → TypesAllowed count types → (type_no : ℕ) → EachField PacksNumbers (fields_among types type_no)
+packs_among count [] p type_no = tt
+packs_among count (type ∷ types) p zero = packs_all count type.oneofs type.fields p.0.fields
+packs_among count (type ∷ types) p (suc type_no) = packs_among count types p.1 type_no
+
+in_more : (first : FieldType) (all fields : List FieldType) → EachField (λ field. IsIn field all) fields → EachField (λ field. IsIn field (first ∷ all)) fields
+in_more first all [] p = tt
+in_more first all (field ∷ fields) p = (inr p.0, in_more first all fields p.1)
+
+in_all : (fields : List FieldType) → EachField (λ field. IsIn field fields) fields
+in_all [] = tt
+in_all (field ∷ fields) = (inl refl, in_more field fields fields (in_all fields))
+
+all_along : (schema : Schema) → Lawful schema → AllAlong schema
+all_along schema lawful = λ type_no. record { inside = in_all (fields_of schema type_no); packs = packs_among _ schema.types lawful.types type_no }
+
+-- THE LAW
+
+pub appended_merges : (schema : Schema) (type_no : ℕ) (x : List ℕ) (a t : Tree) → Lawful schema → Fitted schema type_no t → tree_of schema type_no x ≡ Some a → IsSome (tree_of schema type_no (x ++ text_of schema type_no t))
+    → tree_of schema type_no (x ++ text_of schema type_no t) ≡ Some (merge_of schema type_no a t)
+appended_merges schema type_no x a t lawful fitted e some =
+    let s = text_of schema type_no t in
+    let front = no_fault_then schema type_no x (subst IsSome (sym e) refl) in
+    let none = fault_behind schema type_no 0 x s front (no_fault_then schema type_no (x ++ s) some) in
+    let sound = no_fault_sound schema type_no 0 s none in
+    tree_more schema type_no x s a lawful e some
+    ∙ ap (λ u. Some u) (text_into schema (all_ascend schema lawful) (all_along schema lawful) most_levels type_no a t (decoded_fits schema type_no x a lawful e).fits fitted.fits sound)

@@ -1,9 +1,7 @@
 -- The records of a text put into a message one after another merge the text's tree into it.
-use Rattle.std.proofs.Common.{◌≡◌, ◌≢◌, ◌⊎◌, inl, inr, ⊎_elim, ℕ, zero, suc, ◌+◌, ◌-◌, ◌*◌, ◌^◌, ◌<◌, ◌≤◌, List, [], ◌∷◌, ◌++◌, ◌/◌, length, take, map, Bool, true, false, cond, eqb, not, ◌&&◌, ◌||◌, Option, None, Some, Result, Ok, Err, refl, sym, ap, ◌∙◌, subst, arith, append-nil, append_assoc, length-append}
-use Rattle.std.specs.Prelude.{flat_map}
+use Rattle.std.proofs.Common.{◌≡◌, ◌≢◌, ℕ, zero, suc, ◌-◌, ◌<◌, ◌≤◌, List, [], ◌∷◌, ◌++◌, ◌/◌, length, take, map, Bool, true, false, None, Some, Ok, refl, sym, ap, ◌∙◌, subst, arith, append-nil, length-append}
 use Rattle.std.specs.List.{fold}
-use Rattle.std.proofs.lemmas.Bool.{false≢true, eqb-true, eq-eqb, or_from, cond-true, cond-false}
-use Rattle.std.proofs.lemmas.List.Sums.{fold-append}
+use Rattle.std.proofs.lemmas.Bool.{false≢true}
 use Rattle.pb_schema.specs.declared.kind.Kind.{Kind}
 use Rattle.pb_schema.specs.declared.kind.Kind.TheVariants as kinds
 use Rattle.pb_schema.specs.declared.kind.Card.{Card}
@@ -12,18 +10,18 @@ use Rattle.pb_schema.specs.declared.kind.FieldType.{FieldType}
 use Rattle.pb_schema.specs.declared.schema.Schema.{Schema}
 use Rattle.pb_schema.specs.Varint.{IsContinued, varint_of, value_bytes}
 use Rattle.pb_schema.specs.Reads.{value_read, ◌>>=◌}
-use Rattle.pb_schema.specs.Kinds.{Coding, ValueType, Scalar, Characters, Octets, Nested, value_type_of, value_wire, wire_numbers, is_number}
-use Rattle.pb_schema.specs.Cards.{is_member, is_packed, is_repeated}
-use Rattle.pb_schema.specs.Form.{read_scalar, read_varint}
-use Rattle.pb_schema.specs.Fits.{takes, is_taken, is_packable, wire_of, fields_of, fields_of_value, nested_fields}
+use Rattle.pb_schema.specs.Kinds.{Coding, ValueType, Scalar, Characters, Octets, Nested, value_type_of, wire_numbers, is_number}
+use Rattle.pb_schema.specs.Cards.{is_packed}
+use Rattle.pb_schema.specs.Form.{read_scalar}
+use Rattle.pb_schema.specs.Fits.{takes, fields_of, fields_of_value}
 use Rattle.pb_schema.specs.Records.{Record}
-use Rattle.pb_schema.specs.Tree.{Value, Number, Bytes, Sub, Held, Nothing, One, Many, Tree, Message, ValueList, NoValues, ValueAnd, HeldList, NoFields, FieldAnd, value_list, held_list, values_in_list}
+use Rattle.pb_schema.specs.Tree.{Value, Number, Bytes, Sub, Held, Nothing, One, Many, Tree, ValueList, NoValues, ValueAnd, value_list, held_list, values_in_list}
 use Rattle.pb_schema.specs.Empty.{unset, empty_with}
-use Rattle.pb_schema.specs.Merge.{joined, is_set, sets_member, is_replaced, value_merged, held_merged, fields_merged, message_merged}
-use Rattle.pb_schema.specs.TreeOf.{pattern_in, elements_from, values_by, values_in, unless_default, is_of_oneof, unknown_in, unknown_of}
-use Rattle.pb_schema.specs.Text.{number_text, low_first, spelled_text, value_text, values_text, message_text}
-use Rattle.pb_schema.specs.Fitted.{IsNoDefault, IsPatternOf, IsStringOf, IsNestedOf, IsHeldBy, IsAlone, ValueFits, ValuesFit, HeldFits, FieldsFit, MessageFits, NoneTaken}
-use Rattle.pb_schema.specs.Put.{Onto, nest_onto, message_or, single_put, values_held, taken_put, other_put, held_put, fields_put, put}
+use Rattle.pb_schema.specs.Merge.{joined, held_merged, message_merged}
+use Rattle.pb_schema.specs.TreeOf.{pattern_in, elements_from, values_by, values_in, unless_default}
+use Rattle.pb_schema.specs.Text.{number_text, low_first, spelled_text, values_text, message_text}
+use Rattle.pb_schema.specs.Fitted.{IsNoDefault, IsPatternOf, IsStringOf, IsNestedOf, IsHeldBy, IsAlone, ValueFits, ValuesFit, HeldFits, FieldsFit, MessageFits}
+use Rattle.pb_schema.specs.Put.{Onto, nest_onto, single_put, taken_put, other_put, held_put}
 use Rattle.pb_schema.proofs.VarintLaws.{varint_at_front, varint_of_is}
 use Rattle.pb_schema.proofs.Steps.{length-varint_of}
 use Rattle.pb_schema.proofs.FormLaws.{read_varint_some, read_bytes_of}
@@ -32,7 +30,7 @@ use Rattle.pb_schema.proofs.Gathering.{Fine}
 use Rattle.pb_schema.proofs.MergeLaws.{message_left, joined_none}
 use Rattle.pb_schema.proofs.TreeLists.{list_of_values}
 use Rattle.pb_schema.proofs.Runs.{Each}
-use Rattle.pb_schema.proofs.TextCuts.{IsThis, payload_by, OfValue, OfList, OfPacked, OfMany, OfHeld}
+use Rattle.pb_schema.proofs.TextCuts.{payload_by, OfList, OfPacked, OfMany, OfHeld}
 
 abbrev pub behind : List ℕ → List ℕ → List ℕ
 behind x y = x ++ y
@@ -363,15 +361,15 @@ own_list schema left onto merges all field packed is held (ValueAnd value values
 packed_values : (schema : Schema) (field : FieldType) (coding : Coding) → value_type_of field.kind ≡ Scalar coding → NumberFacts (Scalar coding) → (values : ValueList) → ValuesFit schema field values
     → map (λ s. Number (pattern_in coding s)) (elements_from coding.wire 0 (values_text schema field [] values)) ≡ values_in_list values
 packed_values schema field coding is facts NoValues fits = refl
-packed_values schema field coding is facts (ValueAnd (Number p) values) fits =
+packed_values schema field coding is facts (ValueAnd (Number p) more) fits =
     let h : p < coding.patterns = subst (λ type. IsPatternOf type p) is fits.0 in
-    let rest = values_text schema field [] values in
+    let rest = values_text schema field [] more in
     ap (λ type. map (λ s. Number (pattern_in coding s)) (elements_from coding.wire 0 (([] ++ spelled_text type p) ++ rest))) is
     ∙ (ap (map (λ s. Number (pattern_in coding s))) (elements_front coding.wire (coding.spelled p) rest facts.0 (facts.1 p h).1)
     ∙ (ap (λ n. Number n ∷ map (λ s. Number (pattern_in coding s)) (elements_from coding.wire 0 rest)) (facts.1 p h).0
-    ∙ ap (λ vs. Number p ∷ vs) (packed_values schema field coding is facts values fits.1)))
-packed_values schema field coding is facts (ValueAnd (Bytes s) values) fits = absurd (subst (λ type. IsStringOf type s) is fits.0)
-packed_values schema field coding is facts (ValueAnd (Sub u) values) fits = absurd (subst (λ type. IsNestedOf (λ fields. MessageFits schema fields u) schema type) is fits.0)
+    ∙ ap (λ vs. Number p ∷ vs) (packed_values schema field coding is facts more fits.1)))
+packed_values schema field coding is facts (ValueAnd (Bytes s) more) fits = absurd (subst (λ type. IsStringOf type s) is fits.0)
+packed_values schema field coding is facts (ValueAnd (Sub u) more) fits = absurd (subst (λ type. IsNestedOf (λ fields. MessageFits schema fields u) schema type) is fits.0)
 
 -- a packed list is of numbers
 abbrev pub PacksNumbers : FieldType → Type 0
@@ -406,7 +404,7 @@ own_packed schema left onto all field packs is held values fits rs of mine =
 pub nothing_more : (schema : Schema) (field : FieldType) (held : Held) → held ≡ held_merged behind schema field false held Nothing
 nothing_more schema field Nothing = refl
 nothing_more schema field (One value) = refl
-nothing_more schema field (Many values) = refl
+nothing_more schema field (Many more) = refl
 
 pub own_field : (schema : Schema) (left : ℕ) (onto : Onto (List ℕ)) → Merges schema left onto → (all : List FieldType) (field : FieldType) → PacksNumbers field → (held : Held) → IsHeldBy field.card held → HeldFits schema field held → (theirs : Held) → IsHeldBy field.card theirs → HeldFits schema field theirs
     → (rs : List Record) → OfHeld schema field theirs rs → Each (Mine schema left field) rs → column schema onto all field held rs ≡ held_merged behind schema field false held theirs

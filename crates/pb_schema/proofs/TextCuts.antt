@@ -1,18 +1,18 @@
 -- How bytes that begin with what is written are cut into records, where they are: the record at the front is the one that was written, and what is behind it is behind it.
-use Rattle.std.proofs.Common.{◌≡◌, ◌≢◌, ℕ, zero, suc, ◌+◌, ◌-◌, ◌*◌, ◌/◌, ◌%◌, ◌^◌, ◌<◌, ◌≤◌, List, [], ◌∷◌, ◌++◌, length, Bool, true, false, cond, refl, sym, ap, ◌∙◌, subst, arith, nat_lt, append_assoc, length-append}
+use Rattle.std.proofs.Common.{◌≡◌, ◌≢◌, ℕ, zero, suc, ◌+◌, ◌/◌, ◌%◌, ◌^◌, ◌<◌, ◌≤◌, List, [], ◌∷◌, ◌++◌, length, Bool, true, false, cond, refl, sym, ap, ◌∙◌, subst, arith, nat_lt, append_assoc}
 use Rattle.std.proofs.lemmas.Bool.{false≢true, ltb-true, lt-ltb}
 use Rattle.pb_schema.specs.declared.kind.FieldType.{FieldType}
 use Rattle.pb_schema.specs.declared.schema.Schema.{Schema}
-use Rattle.pb_schema.specs.Varint.{IsContinued, seven_bits, Varint, groups, varint_of, length_bytes, tag_bytes, value_bytes}
-use Rattle.pb_schema.specs.Tag.{tag_of, IsTag}
-use Rattle.pb_schema.specs.Kinds.{Coding, ValueType, Scalar, Characters, Octets, Nested, value_type_of, value_wire}
+use Rattle.pb_schema.specs.Varint.{IsContinued, seven_bits, Varint, groups, varint_of, value_bytes}
+use Rattle.pb_schema.specs.Tag.{tag_of}
+use Rattle.pb_schema.specs.Kinds.{ValueType, Scalar, Characters, Octets, Nested, value_type_of, value_wire}
 use Rattle.pb_schema.specs.declared.kind.Kind.{Kind}
 use Rattle.pb_schema.specs.declared.kind.Kind.TheVariants as kinds
 use Rattle.std.specs.Prelude.{flat_map}
 use Rattle.pb_schema.specs.Cards.{is_packed}
 use Rattle.pb_schema.specs.Fits.{fields_of_value, nested_fields, wire_of}
 use Rattle.pb_schema.specs.Broken.{most_levels}
-use Rattle.pb_schema.specs.Records.{Record, IsRecord, AreRecords, RecordsWithin, Spans, Spells}
+use Rattle.pb_schema.specs.Records.{Record, AreRecords, RecordsWithin, Spans, Spells}
 use Rattle.pb_schema.specs.Tree.{Value, Number, Bytes, Sub, Held, Nothing, One, Many, ValueList, NoValues, ValueAnd, HeldList, NoFields, FieldAnd}
 use Rattle.pb_schema.specs.Text.{framed, low_first, number_text, spelled_text, packed_text, field_tag, value_text, held_text, values_text, fields_text, message_text}
 use Rattle.pb_schema.specs.Fitted.{IsPatternOf, IsStringOf, IsNestedOf, NoneTaken, IsUnknown, ValueFits, ValuesFit, HeldFits, FieldsFit, MessageFits}
