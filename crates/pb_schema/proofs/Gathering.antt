@@ -64,7 +64,7 @@ above : (least : ℕ) (fields : List FieldType) → NumbersAscend least fields �
 above least [] p = tt
 above least (field ∷ fields) p = (p.0, each_field (λ x. field.number + 1 ≤ x.number) (λ x. field.number + 1 ≤ x.number) (λ x. least ≤ x.number) fields (λ x a b. omega (arith, a, p.0)) (above (field.number + 1) fields p.2) (above (field.number + 1) fields p.2))
 
-others : (field : FieldType) (fields : List FieldType) → NumbersAscend (field.number + 1) fields → EachField (λ x. field.number ≢ x.number) fields
+pub others : (field : FieldType) (fields : List FieldType) → NumbersAscend (field.number + 1) fields → EachField (λ x. field.number ≢ x.number) fields
 others field fields p = each_field (λ x. field.number + 1 ≤ x.number) (λ x. field.number + 1 ≤ x.number) (λ x. field.number ≢ x.number) fields (λ x a b e. absurd (omega (arith, a, e))) (above (field.number + 1) fields p) (above (field.number + 1) fields p)
 
 own_more : (schema : Schema) (first field : FieldType) (fields : List FieldType) → first.number ≢ field.number → Own schema fields field → Own schema (first ∷ fields) field
@@ -87,7 +87,7 @@ Base schema left all r = IsRecord (AreRecords left) r × Holds schema left all r
 abbrev pub TakenIn : Schema → ℕ → FieldType → Record → Type 0
 TakenIn schema left field r = Taken schema left (value_type_of field.kind) (is_repeated field.card) r
 
-taken : (schema : Schema) (left : ℕ) (all : List FieldType) (field : FieldType) (r : Record) → Own schema all field → Base schema left all r → takes schema field r ≡ true → TakenIn schema left field r
+pub taken : (schema : Schema) (left : ℕ) (all : List FieldType) (field : FieldType) (r : Record) → Own schema all field → Base schema left all r → takes schema field r ≡ true → TakenIn schema left field r
 taken schema left all field r own base e =
     let wire = (taken_by schema field r e).wire in
     let other : r.wire ≢ 3 = λ three. ⊎_elim (λ (p : r.wire ≡ value_wire (value_type_of field.kind)). no_start (value_type_of field.kind) (scalar_facts field.kind) (sym p ∙ three)) (λ (p : (r.wire ≡ 2) × (is_repeated field.card ≡ true)). absurd (omega (arith, three, p.0))) wire in
@@ -202,7 +202,7 @@ text_holds : (at : ℕ) (s : List ℕ) (b : Bool) → Finds (cond b (Ok at) (fau
 text_holds at s true found = refl
 text_holds at s false found = not_ok (record { kind = NotUtf8; byte = at }) found.0 found.1
 
-message_fine : (schema : Schema) (left : ℕ) (repeated : Bool) (type_no : ℕ) (r : Record) → Taken schema left (Nested type_no) repeated r → Fine schema left type_no r.payload
+pub message_fine : (schema : Schema) (left : ℕ) (repeated : Bool) (type_no : ℕ) (r : Record) → Taken schema left (Nested type_no) repeated r → Fine schema left type_no r.payload
 message_fine schema left repeated type_no r p = deeper_is schema (deeper_left schema left) p.holds.0 p.holds.1 r.payload type_no p.holds.2 λ stop. (p.holds.0, p.holds.1, stop)
 
 pub messages_fine : (schema : Schema) (left : ℕ) (repeated : Bool) (type_no : ℕ) (rs : List Record) → Each (Taken schema left (Nested type_no) repeated) rs → AllFine schema left type_no (payloads_of rs)

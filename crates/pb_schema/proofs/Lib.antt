@@ -24,6 +24,9 @@ pub mod ShapeLaws
 pub mod AppendLaws
 pub mod MovedLaws
 pub mod PrefixLaws
+pub mod TextCuts
+pub mod PutText
+pub mod AppendedText
 pub mod KindLaws
 pub mod CostLaws
 pub mod PutLaws

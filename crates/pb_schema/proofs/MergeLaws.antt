@@ -15,7 +15,7 @@ use Rattle.pb_schema.specs.Fitted.{IsHeldBy, FieldsFit, MessageFits, Fitted}
 abbrev unset_of : List FieldType → HeldList
 unset_of fields = held_list (map (λ field. unset field.card) fields)
 
-joined_none : (values : ValueList) → joined values NoValues ≡ values
+pub joined_none : (values : ValueList) → joined values NoValues ≡ values
 joined_none NoValues = refl
 joined_none (ValueAnd value values) = ap (λ rest. ValueAnd value rest) (joined_none values)
 
@@ -37,7 +37,7 @@ fields_left schema all whole (field ∷ fields) (FieldAnd x rest) p =
     ap (λ y. FieldAnd y (fields_merged (λ x y. x ++ y) schema all whole fields (unset_of fields) rest)) (held_left schema field (is_replaced field.card all whole) field.card x p.0)
     ∙ ap (λ more. FieldAnd x more) (fields_left schema all whole fields rest p.3)
 
-message_left : (schema : Schema) (fields : List FieldType) (t : Tree) → MessageFits schema fields t → message_merged (λ x y. x ++ y) schema fields (empty_with [] fields) t ≡ t
+pub message_left : (schema : Schema) (fields : List FieldType) (t : Tree) → MessageFits schema fields t → message_merged (λ x y. x ++ y) schema fields (empty_with [] fields) t ≡ t
 message_left schema fields (Message held unknown) p = ap (λ x. Message x unknown) (fields_left schema fields held fields held p.0)
 
 pub merge_left : (schema : Schema) (type_no : ℕ) (t : Tree) → Fitted schema type_no t → merge_of schema type_no (empty schema type_no) t ≡ t

@@ -14,7 +14,10 @@ ghost use Rattle.pb_schema.specs.Tree.{Tree, Shape, tree_map};
 ghost use Rattle.pb_schema.specs.Empty.{empty_with};
 ghost use Rattle.pb_schema.specs.TreeOf.{tree_of};
 ghost use Rattle.pb_schema.specs.ShapeOf.{shape_of};
+ghost use Rattle.pb_schema.specs.Fitted.{Fitted};
 ghost use Rattle.pb_schema.specs.Lawful.{Lawful};
+ghost use Rattle.pb_schema.specs.Merge.{merge_of};
+ghost use Rattle.pb_schema.specs.Text.{text_of};
 ghost use Rattle.pb_schema.specs.Put.{shape_read, tree_read};
 
 /// The shape of payloads and one more is the shape of those with the records of that one put into it, one after another,
@@ -57,4 +60,12 @@ pub fn a_prefix_is_sound_or_cut()
     ensures { (schema : Schema) (type_no depth : ℕ) (x y : List ℕ) → broken_of schema type_no depth (x ++ y) ≡ None
         → (broken_of schema type_no depth x ≡ None)
         ⊎ ((byte : ℕ) × (broken_of schema type_no depth x ≡ Some (record { kind = Cut; byte = byte }))) }
+{}
+
+/// The text of a message that a payload may hold, appended to a payload: where both have a tree, by a lawful schema, the
+/// tree of the whole is the one of the payload with the message merged into it.
+pub fn appended_text_merges()
+    ensures { (schema : Schema) (type_no : ℕ) (x : List ℕ) (a t : Tree) → Lawful schema → Fitted schema type_no t
+        → tree_of schema type_no x ≡ Some a → IsSome (tree_of schema type_no (x ++ text_of schema type_no t))
+        → tree_of schema type_no (x ++ text_of schema type_no t) ≡ Some (merge_of schema type_no a t) }
 {}
