@@ -2,11 +2,11 @@
 ghost use Rattle.std.specs.Prelude.{◌≡◌, ◌≤◌, None, false, is_some};
 ghost use Rattle.arena_mem.specs.Outside.{Rose};
 
+use crate::again::{open_again, read_again};
 use arena_mem::{Failed, FileNames, Files};
-use std::fs;
-use std::io::Read;
 
-/// The files of the system by their paths. It tells no content, and counts its errors.
+/// The files of the system by their paths. It tells no content, and counts its errors. A call that a signal interrupted
+/// goes on.
 #[derive(Drop)]
 pub struct RealFiles<'a, R: std::rt::Files> {
     rt: &'a R,
@@ -58,7 +58,7 @@ impl<'a, R: std::rt::Files> Files for RealFiles<'a, R> {
     ghost blamed = { λ s. s.names.blamed };
 
     fn pick(&mut self, name: String) -> Result<(), Failed> {
-        let opened = fs::open(self.rt, name.as_str());
+        let opened = open_again(self.rt, name.as_str());
         self.names.pick(name);
         match opened {
             Ok(file) => {
@@ -76,7 +76,7 @@ impl<'a, R: std::rt::Files> Files for RealFiles<'a, R> {
         let Some(file) = &mut self.file else {
             unreachable!();
         };
-        match file.read(room) {
+        match read_again(file, room) {
             Ok(count) => Ok(count),
             Err(_) => Err(self.fault()),
         }

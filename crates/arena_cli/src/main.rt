@@ -4,6 +4,7 @@
 //! they tell no content, and answer a fault only where their own count of errors rose. `main` prints nothing itself.
 #![tactic(auto)]
 
+mod again;
 mod files;
 mod sink;
 #[cfg(test)]

@@ -2,10 +2,11 @@
 ghost use Rattle.std.specs.Prelude.{◌≡◌, ◌≤◌, None};
 ghost use Rattle.arena_mem.specs.Outside.{Rose};
 
+use crate::again::{flush_again, write_again};
 use arena_mem::{Failed, Sink};
 use std::io::Write;
 
-/// A sink over a writer. It tells no content, and counts its errors.
+/// A sink over a writer. It tells no content, and counts its errors. A call that a signal interrupted goes on.
 #[derive(Drop)]
 pub struct WriterSink<W: Write> {
     writer: W,
@@ -38,9 +39,9 @@ impl<W: Write> Sink for WriterSink<W> {
     // What was written is flushed at once, so that an error of the flush isn't lost. A writer that takes nothing of a
     // piece has failed.
     fn write(&mut self, piece: &[u8]) -> Result<usize, Failed> {
-        match self.writer.write(piece) {
+        match write_again(&mut self.writer, piece) {
             Ok(0) if !piece.is_empty() => Err(self.fault()),
-            Ok(count) => match self.writer.flush() {
+            Ok(count) => match flush_again(&mut self.writer) {
                 Ok(()) => Ok(count),
                 Err(_) => Err(self.fault()),
             },
