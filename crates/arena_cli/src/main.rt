@@ -6,6 +6,8 @@
 
 mod again;
 mod files;
+#[cfg(test)]
+mod rows;
 mod sink;
 #[cfg(test)]
 mod tests;

@@ -15,10 +15,6 @@ mod placed;
 mod program;
 mod slot;
 mod strings;
-#[cfg(test)]
-mod tests;
-#[cfg(test)]
-mod tests_storage;
 mod tick;
 mod wire;
 mod words;
