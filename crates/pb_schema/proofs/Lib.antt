@@ -24,6 +24,7 @@ pub mod ShapeLaws
 pub mod AppendLaws
 pub mod KindLaws
 pub mod CostLaws
+pub mod NameLaws
 mod Rows
 mod Examples
 mod TreeExamples
