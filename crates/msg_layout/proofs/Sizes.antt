@@ -1,11 +1,10 @@
 -- Worked records: the sizes of the built-in types, and where each field of `pb.Node` lies.
-use Rattle.std.proofs.Common.{◌≡◌, ℕ, List, [], ◌∷◌, map, refl, false}
+use Rattle.std.proofs.Common.{◌≡◌, [], ◌∷◌, map, refl, false}
 use Rattle.pb_schema.specs.declared.kind.Kind.TheVariants as kinds
 use Rattle.pb_schema.specs.declared.kind.Card.TheVariants as cards
 use Rattle.pb_schema.specs.declared.schema.MessageType.{MessageType}
 use Rattle.pb_schema.specs.Builtin.{builtin, field}
 use Rattle.msg_layout.specs.declared.entry.Entry.{Entry}
-use Rattle.msg_layout.specs.declared.entry.Mark.{Mark}
 use Rattle.msg_layout.specs.declared.entry.Mark.TheVariants as marks
 use Rattle.msg_layout.specs.Layout.{layout_of, layout_of_type}
 

@@ -1,5 +1,5 @@
 -- Sums of the slots of fields, by tests of their sizes; and of their bits.
-use Rattle.std.proofs.Common.{◌≡◌, ◌≢◌, ℕ, zero, suc, ◌+◌, ◌<◌, ◌≤◌, Bool, true, false, cond, ◌*◌, List, [], ◌∷◌, ◌++◌, length, take, get_or, sym, ◌∙◌, eqb, ltb, not, refl, inl, inr, ap, arith}
+use Rattle.std.proofs.Common.{◌≡◌, ◌≢◌, ℕ, suc, ◌+◌, ◌<◌, ◌≤◌, Bool, true, false, cond, ◌*◌, List, [], ◌∷◌, ◌++◌, length, take, get_or, ◌∙◌, eqb, ltb, ap, arith}
 use Rattle.std.proofs.lemmas.List.{take_more, length-take}
 use Rattle.std.proofs.lemmas.Bool.Decides.{nat_tests}
 use Rattle.pb_schema.specs.declared.kind.Kind.{Kind}

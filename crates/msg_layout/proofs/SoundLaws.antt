@@ -1,5 +1,5 @@
 -- The layouts of types that a lawful schema may have are sound.
-use Rattle.std.proofs.Common.{◌≡◌, ◌≢◌, ◌↔◌, ◌⊎◌, ℕ, zero, suc, ◌+◌, ◌-◌, ◌*◌, ◌/◌, ◌%◌, ◌^◌, ◌<◌, ◌≤◌, Bool, true, false, cond, ◌&&◌, not, List, [], ◌∷◌, ◌++◌, length, eqb, ltb, refl, sym, inl, inr, ap, ◌∙◌, arith}
+use Rattle.std.proofs.Common.{◌≡◌, ◌⊎◌, ℕ, zero, suc, ◌+◌, ◌*◌, ◌/◌, ◌%◌, ◌^◌, ◌<◌, ◌≤◌, Bool, true, false, cond, ◌&&◌, not, List, [], ◌∷◌, ◌++◌, length, eqb, ltb, refl, inl, inr, ap, arith}
 use Rattle.std.specs.List.{All}
 use Rattle.std.proofs.lemmas.Bool.{cases_lt}
 use Rattle.std.proofs.lemmas.List.Elements.{All-nil, All-cons}
@@ -7,15 +7,13 @@ use Rattle.pb_schema.specs.declared.kind.Card.{Card}
 use Rattle.pb_schema.specs.declared.kind.Card.TheVariants as cards
 use Rattle.pb_schema.specs.declared.kind.FieldType.{FieldType}
 use Rattle.pb_schema.specs.declared.schema.MessageType.{MessageType}
-use Rattle.pb_schema.specs.declared.schema.Schema.{Schema}
-use Rattle.pb_schema.specs.Lawful.{Lawful, TypeAllowed, TypesAllowed, NumbersAscend, FieldsAllowed, CardAllowed}
+use Rattle.pb_schema.specs.Lawful.{TypeAllowed, TypesAllowed, NumbersAscend, FieldsAllowed, CardAllowed}
 use Rattle.pb_schema.specs.Kinds.{ValueType, value_type_of}
 use Rattle.pb_schema.specs.Meter.{round8}
-use Rattle.msg_layout.specs.declared.entry.Entry.{Entry}
 use Rattle.msg_layout.specs.declared.entry.Mark.{Mark}
 use Rattle.msg_layout.specs.declared.entry.Mark.TheVariants as marks
-use Rattle.msg_layout.specs.Slots.{array_slot, slot_bytes, is_message, is_explicit, bytes_if, bytes_where, has_bit, bit_count, bit_bytes, front_bytes}
-use Rattle.msg_layout.specs.Layout.{Layout, slots_start, slot_at, word_of, mark_at, entry_at, entries_from, layout_of_type, layout_among, layout_of}
+use Rattle.msg_layout.specs.Slots.{slot_bytes, is_message, is_explicit, bytes_if, bytes_where, has_bit, bit_count, bit_bytes, front_bytes}
+use Rattle.msg_layout.specs.Layout.{slots_start, slot_at, word_of, mark_at, entry_at, entries_from, layout_of_type, layout_among}
 use Rattle.msg_layout.specs.Sound.{EachTwo, MarkWithin, FitsIn, MarksApart, OneWord, Beside, IsSound}
 use Rattle.msg_layout.proofs.SlotLaws.{some_bytes, few_bits, few_slot_bytes, where_more, bits_more, sizes_once, own_size}
 

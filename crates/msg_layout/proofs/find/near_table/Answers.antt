@@ -1,4 +1,4 @@
-use Rattle.std.proofs.Common.{List, ℕ, ◌+◌, length, take, get_or, sym, ap, subst, ◌≤◌, ◌<◌, arith}
+use Rattle.std.proofs.Common.{List, ℕ, ◌+◌, take, get_or, sym, ap, subst, ◌≤◌, ◌<◌, arith}
 use Rattle.msg_layout.specs.Find.{Tells}
 use Rattle.msg_layout.proofs.FindLaws.{past_end_entry, tells_more, tells_past}
 use Rattle.msg_layout.proofs.find.near_table.Goals as goal
