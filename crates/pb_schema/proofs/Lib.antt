@@ -30,6 +30,7 @@ pub mod AppendedText
 pub mod KindLaws
 pub mod CostLaws
 pub mod PutLaws
+pub mod NameLaws
 mod Rows
 mod Examples
 mod TreeExamples

@@ -29,3 +29,4 @@ pub mod MoreCost
 pub mod Fitted
 pub mod Lawful
 pub mod Builtin
+pub mod Names

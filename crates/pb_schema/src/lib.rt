@@ -10,6 +10,8 @@
 //! worked values alone.
 #![tactic(auto)]
 
+mod built_in;
+mod find;
 mod kind;
 mod laws;
 mod lists;
@@ -17,6 +19,7 @@ mod schema;
 mod step_laws;
 mod wire_fault;
 
+pub use built_in::builtin;
 pub use kind::{Card, FieldType, Kind};
 pub use laws::{
     a_tree_where_no_fault, decoded_trees_are_fitted, empty_merges_to_the_same,

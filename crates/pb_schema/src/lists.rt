@@ -1,5 +1,5 @@
 // Vectors that contracts see as lists.
-ghost use Rattle.std.specs.Prelude.{◌≡◌, IfOk};
+ghost use Rattle.std.specs.Prelude.{◌≡◌, ◌↔◌, IfOk, IsTrue};
 
 use crate::kind::FieldType;
 use no_memory::NoMemory;
@@ -28,6 +28,13 @@ impl Name {
         Ok(Name {
             bytes: Vec::from_slice(alloc, text.as_bytes())?,
         })
+    }
+
+    /// Whether this is the name's text.
+    pub fn is(&self, text: &str) -> bool
+        ensures { IsTrue result ↔ (self.now ≡ text.now) }
+    {
+        self.bytes.as_slice() == text.as_bytes()
     }
 }
 

@@ -1,0 +1,5 @@
+pub mod SlotLaws
+pub mod SoundLaws
+pub mod LayoutLaws
+pub mod FindLaws
+mod Sizes

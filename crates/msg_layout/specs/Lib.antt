@@ -1,0 +1,4 @@
+pub mod Slots
+pub mod Layout
+pub mod Sound
+pub mod Find
