@@ -28,7 +28,10 @@ pub use laws::{
 pub use lists::{ByteList, FieldList, Name};
 pub use no_memory::NoMemory;
 pub use schema::{MessageType, Schema, TypeList};
-pub use step_laws::{a_prefix_is_sound_or_cut, appended_text_merges, first_fault, one_record_more};
+pub use step_laws::{
+    a_prefix_is_sound_or_cut, appended_text_merges, first_fault, one_record_more,
+    written_messages_are_read_back,
+};
 pub use wire_fault::{WireFault, WireKind};
 
 #[cfg(test)]
