@@ -41,12 +41,12 @@ or_true true b e = refl
 or_true false b e = e
 
 -- with the field's number and wire type, or packed
-takes_own : (schema : Schema) (field : FieldType) (r : Record) → r.number ≡ field.number → r.wire ≡ wire_of field → takes schema field r ≡ true
+pub takes_own : (schema : Schema) (field : FieldType) (r : Record) → r.number ≡ field.number → r.wire ≡ wire_of field → takes schema field r ≡ true
 takes_own schema field r n w =
     ap (λ b. b && (eqb r.wire (wire_of field) || (eqb r.wire 2 && is_packable field))) (eq-eqb field.number r.number (sym n))
     ∙ ap (λ b. b || (eqb r.wire 2 && is_packable field)) (eq-eqb r.wire (wire_of field) w)
 
-takes_packed : (schema : Schema) (field : FieldType) (r : Record) → r.number ≡ field.number → r.wire ≡ 2 → is_packable field ≡ true → takes schema field r ≡ true
+pub takes_packed : (schema : Schema) (field : FieldType) (r : Record) → r.number ≡ field.number → r.wire ≡ 2 → is_packable field ≡ true → takes schema field r ≡ true
 takes_packed schema field r n w p =
     ap (λ b. b && (eqb r.wire (wire_of field) || (eqb r.wire 2 && is_packable field))) (eq-eqb field.number r.number (sym n))
     ∙ or_true (eqb r.wire (wire_of field)) (eqb r.wire 2 && is_packable field) (ap (λ b. b && is_packable field) (eq-eqb r.wire 2 w) ∙ p)
@@ -57,7 +57,7 @@ packed_repeats cards.Implicit e = absurd (false≢true e)
 packed_repeats cards.Explicit e = absurd (false≢true e)
 packed_repeats (cards.Member oneof) e = absurd (false≢true e)
 
-packable : (field : FieldType) → PacksNumbers field → is_packed field.card ≡ true → is_packable field ≡ true
+pub packable : (field : FieldType) → PacksNumbers field → is_packed field.card ≡ true → is_packable field ≡ true
 packable field packs e = ap (λ b. b && is_repeated field.card) (packs e) ∙ packed_repeats field.card e
 
 abbrev AreTaken : Schema → FieldType → List Record → Type 0
@@ -82,7 +82,7 @@ of_taken schema field packs (Many more) rs of = pick (is_packed field.card) refl
     pick false e of = list_taken schema field more rs of
 
 -- a message that the field takes has no fault
-fine_by : (schema : Schema) (left : ℕ) (type : ValueType) (repeated : Bool) (r : Record) → Taken schema left type repeated r → FineBy schema left type r.payload
+pub fine_by : (schema : Schema) (left : ℕ) (type : ValueType) (repeated : Bool) (r : Record) → Taken schema left type repeated r → FineBy schema left type r.payload
 fine_by schema left (Scalar coding) repeated r p = tt
 fine_by schema left Characters repeated r p = tt
 fine_by schema left Octets repeated r p = tt
@@ -99,11 +99,11 @@ each_split P (x ∷ xs) ys p = let rest = each_split P xs ys p.1 in ((p.0, rest.
 
 -- A FIELD AMONG OTHERS
 
-abbrev IsIn : FieldType → List FieldType → Type 0
+abbrev pub IsIn : FieldType → List FieldType → Type 0
 IsIn field [] = ⊥
 IsIn field (x ∷ fields) = (field ≡ x) ⊎ IsIn field fields
 
-each_in : (P : FieldType → Type 0) (field : FieldType) (fields : List FieldType) → EachField P fields → IsIn field fields → P field
+pub each_in : (P : FieldType → Type 0) (field : FieldType) (fields : List FieldType) → EachField P fields → IsIn field fields → P field
 each_in P field [] p is = absurd is
 each_in P field (x ∷ fields) p (inl e) = subst P (sym e) p.0
 each_in P field (x ∷ fields) p (inr is) = each_in P field fields p.1 is
@@ -249,11 +249,11 @@ none_replaced (cards.Member oneof) = refl
 none_replaced (cards.Repeated packed) = refl
 
 -- what is known of the fields of a type and of those from one of them on
-record Along (schema : Schema) (all fields : List FieldType) : Type 0 where
-  inside : EachField (λ field. IsIn field all) fields
-  packs : EachField PacksNumbers fields
+pub record Along (schema : Schema) (all fields : List FieldType) : Type 0 where
+  pub inside : EachField (λ field. IsIn field all) fields
+  pub packs : EachField PacksNumbers fields
 
-along_more : (schema : Schema) (all : List FieldType) (field : FieldType) (fields : List FieldType) → Along schema all (field ∷ fields) → Along schema all fields
+pub along_more : (schema : Schema) (all : List FieldType) (field : FieldType) (fields : List FieldType) → Along schema all (field ∷ fields) → Along schema all fields
 along_more schema all field fields p = record { inside = p.inside.1; packs = p.packs.1 }
 
 -- a field that isn't among these
@@ -489,7 +489,7 @@ level_merges schema left onto merges all ascend along held before theirs unknown
     ∙ (ap (λ h. Message h (before ++ unknown_of schema all rs)) (put_columns schema onto all rs held ∙ merged_columns schema left onto merges all ascend along unknown theirs fits.0 rs base parts all held theirs f fits.0 (λ x k there. there))
     ∙ ap (λ u. Message (fields_merged behind schema all theirs all held theirs) (before ++ u)) (unknown_parts schema all unknown all along theirs rs parts))
 
-abbrev AllAlong : Schema → Type 0
+abbrev pub AllAlong : Schema → Type 0
 AllAlong schema = (type_no : ℕ) → Along schema (fields_of schema type_no) (fields_of schema type_no)
 
 text_into : (schema : Schema) → AllAscend schema → AllAlong schema → (left type_no : ℕ) (t u : Tree) → MessageFits schema (fields_of schema type_no) t → MessageFits schema (fields_of schema type_no) u → Sound schema left (fields_of schema type_no) (message_text schema (fields_of schema type_no) u)
@@ -526,7 +526,7 @@ in_all : (fields : List FieldType) → EachField (λ field. IsIn field fields) f
 in_all [] = tt
 in_all (field ∷ fields) = (inl refl, in_more field fields fields (in_all fields))
 
-all_along : (schema : Schema) → Lawful schema → AllAlong schema
+pub all_along : (schema : Schema) → Lawful schema → AllAlong schema
 all_along schema lawful = λ type_no. record { inside = in_all (fields_of schema type_no); packs = packs_among _ schema.types lawful.types type_no }
 
 -- THE LAW

@@ -27,6 +27,8 @@ pub mod PrefixLaws
 pub mod TextCuts
 pub mod PutText
 pub mod AppendedText
+pub mod TextSound
+pub mod ReadBack
 pub mod KindLaws
 pub mod CostLaws
 pub mod PutLaws

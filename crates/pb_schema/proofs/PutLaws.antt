@@ -225,7 +225,7 @@ card_none schema nest all field cards.Explicit = none_single nest (value_type_of
 card_none schema nest all field (cards.Member oneof) = none_single nest (value_type_of field.kind)
 card_none schema nest all field (cards.Repeated packed) = refl
 
-fields_none : {U : Type 0} (schema : Schema) (nest : Nest U) (all fields : List FieldType) → held_list (map (held_of schema nest all []) fields) ≡ held_list (map (λ field. unset field.card) fields)
+pub fields_none : {U : Type 0} (schema : Schema) (nest : Nest U) (all fields : List FieldType) → held_list (map (held_of schema nest all []) fields) ≡ held_list (map (λ field. unset field.card) fields)
 fields_none schema nest all [] = refl
 fields_none schema nest all (field ∷ fields) =
     ap (λ held. FieldAnd held (held_list (map (held_of schema nest all []) fields))) (card_none schema nest all field field.card)

@@ -37,7 +37,7 @@ behind x y = x ++ y
 
 -- NUMBERS
 
-abbrev IsNumberWire : ℕ → Type 0
+abbrev pub IsNumberWire : ℕ → Type 0
 IsNumberWire zero = Unit {0}
 IsNumberWire (suc zero) = Unit {0}
 IsNumberWire (suc (suc zero)) = ⊥
@@ -85,7 +85,7 @@ elements_front (suc (suc (suc (suc (suc zero))))) v y p h = fixed_step 5 4 v y (
 elements_front (suc (suc (suc (suc (suc (suc wire)))))) v y p h = absurd p
 
 -- what the table of kinds says of the numbers of a type
-abbrev NumberFacts : ValueType → Type 0
+abbrev pub NumberFacts : ValueType → Type 0
 NumberFacts (Scalar coding) = IsNumberWire coding.wire × ((p : ℕ) → p < coding.patterns → (pattern_in coding (number_text coding.wire (coding.spelled p)) ≡ p) × (coding.spelled p < wire_numbers coding.wire))
 NumberFacts Characters = Unit {0}
 NumberFacts Octets = Unit {0}
@@ -101,7 +101,7 @@ wire_fact : (kind : Kind) → WireFact (value_type_of kind)
 wire_fact kinds.Text = tt
 wire_fact _ = tt
 
-number_facts : (kind : Kind) → NumberFacts (value_type_of kind)
+pub number_facts : (kind : Kind) → NumberFacts (value_type_of kind)
 number_facts kind = by (value_type_of kind) refl (wire_fact kind)
   where
     by : (type : ValueType) → value_type_of kind ≡ type → WireFact type → NumberFacts type
@@ -124,12 +124,12 @@ FineBy schema left (Scalar coding) s = Unit {0}
 FineBy schema left Characters s = Unit {0}
 FineBy schema left Octets s = Unit {0}
 
-abbrev ValueBy : Schema → ValueType → Value → Type 0
+abbrev pub ValueBy : Schema → ValueType → Value → Type 0
 ValueBy schema type (Number p) = IsPatternOf type p
 ValueBy schema type (Bytes s) = IsStringOf type s
 ValueBy schema type (Sub t) = IsNestedOf (λ fields. MessageFits schema fields t) schema type
 
-by_type : (schema : Schema) (field : FieldType) (value : Value) → ValueFits schema field value → ValueBy schema (value_type_of field.kind) value
+pub by_type : (schema : Schema) (field : FieldType) (value : Value) → ValueFits schema field value → ValueBy schema (value_type_of field.kind) value
 by_type schema field (Number p) fits = fits
 by_type schema field (Bytes s) fits = fits
 by_type schema field (Sub t) fits = fits

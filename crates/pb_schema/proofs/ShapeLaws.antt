@@ -100,7 +100,7 @@ abbrev pub AllSound : Schema → ℕ → List FieldType → List (List ℕ) → 
 AllSound schema left fields [] = Unit {0}
 AllSound schema left fields (s ∷ more) = Sound schema left fields s × AllSound schema left fields more
 
-sound_none : (schema : Schema) (left : ℕ) (fields : List FieldType) → Sound schema left fields []
+pub sound_none : (schema : Schema) (left : ℕ) (fields : List FieldType) → Sound schema left fields []
 sound_none schema left fields = record { rs = []; are = refl; hold = tt }
 
 pub sound_concat : (schema : Schema) (left : ℕ) (fields : List FieldType) (payloads : List (List ℕ)) → AllSound schema left fields payloads → Sound schema left fields (concat payloads)

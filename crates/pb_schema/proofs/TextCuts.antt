@@ -99,7 +99,7 @@ some_groups (suc more) n x e = pick (nat_lt n 128) e
 
 -- PAYLOADS
 
-length_low : (n v : ℕ) → length (low_first n v) ≡ n
+pub length_low : (n v : ℕ) → length (low_first n v) ≡ n
 length_low zero v = refl
 length_low (suc n) v = ap suc (length_low n (v / 256))
 
@@ -199,7 +199,7 @@ OfHeld schema field Nothing rs = rs ≡ []
 OfHeld schema field (One value) rs = (r : Record) × (rs ≡ r ∷ []) × OfValue schema field value r
 OfHeld schema field (Many values) rs = OfMany schema field values rs (is_packed field.card)
 
-wire_small : (kind : Kind) → value_wire (value_type_of kind) ≤ 5
+pub wire_small : (kind : Kind) → value_wire (value_type_of kind) ≤ 5
 wire_small kinds.Text = omega arith
 wire_small _ = omega arith
 

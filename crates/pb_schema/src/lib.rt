@@ -6,8 +6,9 @@
 //! function that computes it finds it exactly where there is one. A payload has a tree exactly where it has no fault,
 //! and by a lawful schema that tree is one that a message of its type may be. The shape of payloads, a tree with its
 //! unknown bytes in pieces, is their tree once the pieces are joined, and what payloads count in a memory is said over
-//! it. What is written is read back: shown of frames, of numbers and of messages of `pb.Tick`, and of other trees by
-//! worked values alone.
+//! it. What a payload stands for is also what putting its records into a message one after another gives; a text
+//! behind it merges; bytes have the fault of their first bad record, and a front of sound bytes is sound or cut. What
+//! is written is read back: numbers, frames, and each message that was decoded.
 #![tactic(auto)]
 
 mod built_in;
@@ -31,7 +32,10 @@ pub use laws::{
 pub use lists::{ByteList, FieldList, Name};
 pub use no_memory::NoMemory;
 pub use schema::{MessageType, Schema, TypeList};
-pub use step_laws::{a_prefix_is_sound_or_cut, appended_text_merges, first_fault, one_record_more};
+pub use step_laws::{
+    a_prefix_is_sound_or_cut, appended_text_merges, first_fault, one_record_more,
+    written_messages_are_read_back,
+};
 pub use wire_fault::{WireFault, WireKind};
 
 #[cfg(test)]

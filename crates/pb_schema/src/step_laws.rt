@@ -1,6 +1,6 @@
 //! Laws of reading step by step, each the contract of a function that does nothing: one record or one payload more in
 //! a message that is there, and the first fault of bytes that go on.
-ghost use Rattle.std.specs.Prelude.{◌≡◌, ◌≢◌, ◌↔◌, ◌⊎◌, ℕ, ◌-◌, List, [], ◌∷◌, ◌++◌, length, IsSome, None, Some, Err};
+ghost use Rattle.std.specs.Prelude.{◌≡◌, ◌≢◌, ◌↔◌, ◌⊎◌, ℕ, ◌-◌, ◌^◌, ◌<◌, List, [], ◌∷◌, ◌++◌, length, IsSome, None, Some, Err};
 ghost use Rattle.std.specs.Option.{option_map};
 ghost use Rattle.std.specs.List.{concat};
 ghost use Rattle.pb_schema.specs.declared.schema.Schema.{Schema};
@@ -68,4 +68,13 @@ pub fn appended_text_merges()
     ensures { (schema : Schema) (type_no : ℕ) (x : List ℕ) (a t : Tree) → Lawful schema → Fitted schema type_no t
         → tree_of schema type_no x ≡ Some a → IsSome (tree_of schema type_no (x ++ text_of schema type_no t))
         → tree_of schema type_no (x ++ text_of schema type_no t) ≡ Some (merge_of schema type_no a t) }
+{}
+
+/// What is written for a message that a payload decodes to has no fault and decodes to that message, by a lawful schema
+/// and where it has fewer than 2^31 bytes. It can have more bytes than the payload, whose numbers may have been written
+/// shorter (a negative number of `int32` in five bytes is written in ten); it nests no deeper.
+pub fn written_messages_are_read_back()
+    ensures { (schema : Schema) (type_no : ℕ) (s : List ℕ) (t : Tree) → Lawful schema
+        → tree_of schema type_no s ≡ Some t → length (text_of schema type_no t) < 2 ^ 31
+        → tree_of schema type_no (text_of schema type_no t) ≡ Some t }
 {}
