@@ -654,17 +654,22 @@ const ROWS: [Row; 49] = [
     ),
 ];
 
-#[test]
-fn rows_end_as_they_say(rt: HostRuntime) -> Result<(), Fail> {
-    for (name, words, content, status, fault, written, registers, space_used, kept) in ROWS {
-        let end = end_of_run(rt.alloc(), words, content, &[], 65536, &[])?;
-        assert_eq!(rt; end.fault, fault, "{name}");
-        assert_eq!(rt; end.status, status, "{name}");
-        assert_eq!(rt; end.written.as_slice(), written, "{name}");
-        assert_eq!(rt; end.registers, registers, "{name}");
-        assert_eq!(rt; (end.space_used, end.kept), (space_used, kept), "{name}");
+// Each row ends as it says.
+fn check_rows(rt: &impl Abort, alloc: Global, rows: &[Row]) -> Result<(), Fail> {
+    for (name, words, content, status, fault, written, registers, space_used, kept) in rows {
+        let end = end_of_run(alloc, words, content, &[], 65536, &[])?;
+        assert_eq!(rt; &end.fault, fault, "{name}");
+        assert_eq!(rt; &end.status, status, "{name}");
+        assert_eq!(rt; end.written.as_slice(), *written, "{name}");
+        assert_eq!(rt; &end.registers, registers, "{name}");
+        assert_eq!(rt; (end.space_used, end.kept), (*space_used, *kept), "{name}");
     }
     Ok(())
+}
+
+#[test]
+fn rows_end_as_they_say(rt: HostRuntime) -> Result<(), Fail> {
+    check_rows(&rt, rt.alloc(), &ROWS)
 }
 
 // A run over a long file ends so, with that many messages of 32 bytes.
@@ -673,12 +678,12 @@ fn check_long(
     alloc: Global,
     content: &[u8],
     fault: Option<Fault>,
-    messages: usize,
+    messages: u32,
 ) -> Result<(), Fail> {
     let end = end_of_run(alloc, CAT, content, &[], 65536, &[])?;
     assert_eq!(rt; end.fault, fault);
-    assert_eq!(rt; end.registers, messages);
-    assert_eq!(rt; end.space_used, 32 * messages as u64);
+    assert_eq!(rt; end.registers, messages as usize);
+    assert_eq!(rt; end.space_used, 32 * u64::from(messages));
     if messages > 0 {
         assert_eq!(rt; end.written.as_slice(), content);
     }
