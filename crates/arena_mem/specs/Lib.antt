@@ -7,3 +7,4 @@ pub mod NamedBytes
 pub mod Reading
 pub mod MemoryFiles
 pub mod MemorySink
+pub mod Plain

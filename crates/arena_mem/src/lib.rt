@@ -17,6 +17,8 @@ mod named_bytes;
 mod outside;
 mod part;
 mod place;
+mod plain_bytes;
+mod plain_memory;
 mod reading;
 
 pub use file_names::FileNames;
@@ -29,6 +31,7 @@ pub use no_memory::NoMemory;
 pub use outside::{Failed, Files, Sink};
 pub use part::Part;
 pub use place::{Buffer, Place};
+pub use plain_memory::PlainMemory;
 
 #[cfg(test)]
 mod tests;

@@ -1,5 +1,6 @@
 // Files and a sink in memory, call by call.
 ghost use Rattle.std.specs.Prelude.{◌<◌, length};
+ghost use Rattle.arena_mem.specs.Places.{IsPlaceable};
 
 use super::*;
 use std::alloc::{AllocError, Global};
@@ -96,5 +97,49 @@ fn takes_fronts_of_pieces(rt: HostRuntime) -> Result<(), Fail> {
     assert_eq!(rt; sink.write(b"!"), Ok(1));
     assert_eq!(rt; sink.taken(), b"hello!".as_slice());
     assert_eq!(rt; sink.faults(), 1);
+    Ok(())
+}
+
+// Places `bytes` bytes in a plain memory, and looks for zeros there.
+fn check_plain_place(
+    rt: &impl Abort,
+    mem: &mut PlainMemory,
+    bytes: u32,
+    block: u32,
+    len: u32,
+) -> Result<(), MemFault>
+    requires { IsPlaceable bytes }
+{
+    let place = mem.place(bytes)?;
+    let want = Place {
+        region: 0,
+        block,
+        offset: 0,
+        len,
+    };
+    assert_eq!(rt; place, want);
+    assert!(rt; mem.read(place).iter().all(|byte| *byte == 0));
+    Ok(())
+}
+
+#[test]
+fn a_plain_memory_has_a_block_for_each_place(rt: HostRuntime) -> Result<(), Fail> {
+    let mut mem = PlainMemory::new(rt.alloc());
+    check_plain_place(&rt, &mut mem, 1, 0, 8)?;
+    check_plain_place(&rt, &mut mem, 8, 1, 8)?;
+    check_plain_place(&rt, &mut mem, 9, 2, 16)?;
+    let first = mem.place(8)?;
+    let last = mem.place(16)?;
+    mem.write(first, 2, b"ab");
+    mem.copy_front(first, last, 4);
+    mem.copy_front(last, last, 8);
+    assert_eq!(rt; mem.read(first), b"\0\0ab\0\0\0\0".as_slice());
+    assert_eq!(rt;
+        mem.read(last),
+        b"\0\0ab\0\0\0\0\0\0\0\0\0\0\0\0".as_slice()
+    );
+    let buffer = mem.keep_copy(b"kept")?;
+    assert_eq!(rt; (buffer.region, buffer.number), (0, 0));
+    assert_eq!(rt; mem.kept(buffer), b"kept".as_slice());
     Ok(())
 }
