@@ -2,30 +2,34 @@
 ghost use Rattle.std.specs.Prelude.{◌≡◌, ◌+◌, ◌-◌, ◌^◌, ◌≤◌, ◌++◌, length, replicate, IfOk, vec_capacity};
 ghost use Rattle.arena_block.specs.Policy.{round8};
 
-use crate::filled::{copy_part, fill, overwrite, part, rounded};
+use crate::filled::{copy_part, fill, overwrite, part, rounded, zero_ahead};
 use no_memory::NoMemory;
 use std::alloc::Global;
 use std::marker::Model;
 
 /// A block of fixed size, filled from its start on: 16 bytes of header, then part after part.
 ///
-/// Its memory is taken at once, and each byte is written for the first time when its part is placed.
+/// Its memory is taken at once, and is zeroed in steps ahead of what is filled: so placing a part is mostly a comparison
+/// and an addition, and what is never filled is hardly touched.
 #[derive(Drop)]
 pub struct Block {
     size: u32,
+    // How far it is filled; what is zeroed ahead of that stands behind it.
+    filled: u32,
     bytes: Vec<u8>,
 }
 
 impl Model for Block {
-    ghost use Rattle.std.specs.Prelude.{◌≤◌, vec_capacity};
+    ghost use Rattle.std.specs.Prelude.{◌≤◌, take, vec_capacity};
     ghost use Rattle.arena_block.specs.Block.{BlockState, IsBlock};
+    ghost use Rattle.arena_block.specs.Ahead.{IsZeroed};
 
     ghost Value = { BlockState };
 
-    ghost view = { λ b. record { size = b.size; bytes = b.bytes.items } };
+    ghost view = { λ b. record { size = b.size; bytes = take b.filled b.bytes.items } };
 
     // The room that is left was reserved with the block.
-    ghost invariant = { λ b. IsBlock (record { size = b.size; bytes = b.bytes.items }) × (b.size ≤ vec_capacity b.bytes) };
+    ghost invariant = { λ b. IsBlock (record { size = b.size; bytes = take b.filled b.bytes.items }) × IsZeroed b.size b.filled b.bytes.items × (b.size ≤ vec_capacity b.bytes) };
 }
 
 impl Block {
@@ -38,8 +42,12 @@ impl Block {
         ensures { IfOk result (λ block. block ≡ fresh_block size) }
     {
         let mut bytes = Vec::with_capacity(alloc, size as usize)?;
-        fill(&mut bytes, 16);
-        Ok(Block { size, bytes })
+        zero_ahead(&mut bytes, 16, size);
+        Ok(Block {
+            size,
+            filled: 16,
+            bytes,
+        })
     }
 
     /// Its size in bytes, the header included. It takes no memory.
@@ -55,7 +63,7 @@ impl Block {
         ensures room { result ≡ room_of self.now }
         ensures block { IsBlock self.now }
     {
-        self.size - self.bytes.len() as u32
+        self.size - self.filled
     }
 
     /// Fills `bytes` bytes more, rounded up to a multiple of 8, with zeros, and answers the offset that they begin
@@ -67,8 +75,8 @@ impl Block {
         ensures offset { result ≡ length self.old.bytes }
         ensures placed { self.new ≡ with_part self.old bytes }
     {
-        let offset = self.bytes.len() as u32;
-        fill(&mut self.bytes, rounded(bytes) as usize);
+        let offset = self.filled;
+        self.filled = fill(&mut self.bytes, offset, rounded(bytes), self.size);
         offset
     }
 

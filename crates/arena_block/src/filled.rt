@@ -1,6 +1,7 @@
 // Rows of bytes that are filled within their capacity.
 ghost use Rattle.std.specs.Prelude.{◌≡◌, ◌+◌, ◌^◌, ◌-◌, ◌≤◌, ◌++◌, length, take, drop, replicate, vec_capacity};
 ghost use Rattle.arena_block.specs.Policy.{round8};
+ghost use Rattle.arena_block.specs.Ahead.{IsZeroed};
 
 // The least multiple of 8 that is at least `bytes`.
 #[inline]
@@ -11,25 +12,44 @@ pub(crate) fn rounded(bytes: u32) -> u32
     (bytes + 7) / 8 * 8
 }
 
-// Common parts are short: a copy of known length from here is a few instructions.
-const ZEROS: [u8; 64] = [0; 64];
+// How far a row is zeroed ahead of what is wanted. More is touched in vain at a block's end, less is asked for too often.
+const STEP: u32 = 512;
 
-// Adds `len` zero bytes, for which there is room.
-#[inline]
-pub(crate) fn fill(row: &mut Vec<u8>, len: usize)
-    requires { length row.old.items + len ≤ vec_capacity row.old }
-    ensures items { row.new.items ≡ row.old.items ++ replicate len 0 }
-    ensures capacity { vec_capacity row.old ≤ vec_capacity row.new }
+// Adds zero bytes up to `end`, and a step more where the size has room for it. It is apart so that filling what is
+// zeroed already is a few instructions.
+#[cold]
+#[inline(never)]
+pub(crate) fn zero_ahead(row: &mut Vec<u8>, end: u32, size: u32)
+    requires fits { end ≤ size }
+    requires more { length row.old.items ≤ end }
+    requires reserved { size ≤ vec_capacity row.old }
+    ensures zeroed { row.new.items ≡ row.old.items ++ replicate (length row.new.items - length row.old.items) 0 }
+    ensures enough { end ≤ length row.new.items }
+    ensures within { length row.new.items ≤ size }
+    ensures reserved { size ≤ vec_capacity row.new }
 {
-    if len <= ZEROS.len() {
-        let Ok(()) = row.extend_from_slice(&ZEROS[..len]) else {
-            unreachable!()
-        };
-    } else {
-        let Ok(()) = row.resize(row.len() + len, 0) else {
-            unreachable!()
-        };
+    let target = size.min(end.saturating_add(STEP));
+    let Ok(()) = row.resize(target as usize, 0) else {
+        unreachable!()
+    };
+}
+
+// Fills `len` zero bytes behind those that are filled, and answers how far it is filled then.
+#[inline]
+pub(crate) fn fill(row: &mut Vec<u8>, filled: u32, len: u32, size: u32) -> u32
+    requires zeroed { IsZeroed size filled row.old.items }
+    requires fits { filled + len ≤ size }
+    requires reserved { size ≤ vec_capacity row.old }
+    ensures end { result ≡ filled + len }
+    ensures filled { take result row.new.items ≡ take filled row.old.items ++ replicate len 0 }
+    ensures zeroed { IsZeroed size result row.new.items }
+    ensures reserved { size ≤ vec_capacity row.new }
+{
+    let end = filled + len;
+    if end as usize > row.len() {
+        zero_ahead(row, end, size);
     }
+    end
 }
 
 // Lends `len` bytes of the row from `offset` on.

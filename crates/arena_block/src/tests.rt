@@ -56,3 +56,17 @@ fn the_least_block_has_one_part(rt: HostRuntime) -> Result<(), Fail> {
     assert_eq!(rt; block.room(), 0);
     Ok(())
 }
+
+// What lies ahead is zeroed in steps, and the last step ends with the block.
+#[test]
+fn parts_beyond_each_step_are_zeros(rt: HostRuntime) -> Result<(), Fail> {
+    let mut block = Block::new(rt.alloc(), 1216)?;
+    for _ in 0..5 {
+        assert!(rt; block.room() >= 240);
+        let offset = block.place(240);
+        assert_eq!(rt; block.read(offset, 240), [0; 240].as_slice());
+        block.write(offset, &[1; 240]);
+    }
+    assert_eq!(rt; block.room(), 0);
+    Ok(())
+}
