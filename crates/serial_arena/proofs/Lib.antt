@@ -2,3 +2,5 @@ mod Placing
 pub mod Names
 mod Parts
 mod States
+mod Chunks
+mod Keeping

@@ -13,7 +13,7 @@ state_of a = record {
   policy = a.policy;
   sizes = sizes_of a.blocks.items;
   placements = map (placement_in a.blocks.items) a.spans.items;
-  kept = map (λ k. k.bytes.items) a.kept;
+  kept = a.kept;
 }
 
 abbrev pub HoldsBlocks : Inside → Type 0

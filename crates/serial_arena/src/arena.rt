@@ -1,15 +1,15 @@
 // The arena, and what a contract sees of it.
-ghost use Rattle.std.specs.Prelude.{◌≡◌, [], length, IsSome};
+ghost use Rattle.std.specs.Prelude.{◌≡◌, ◌^◌, ◌<◌, [], length, IsSome};
 ghost use Rattle.arena_block.specs.Policy.{IsValid};
 ghost use Rattle.cleanup_list.specs.Told.{block, Gains, HasRoom};
 ghost use Rattle.arena_mem.specs.Places.{used};
 ghost use Rattle.serial_arena.specs.Serial.{places_of, used_of, allocated_of, IsSerial};
 
-use crate::kept::KeptBytes;
 use crate::span::Span;
+use crate::strings::KeptStrings;
 use arena_block::{Block, Policy};
 use arena_mem::Part;
-use cleanup_list::{CleanupList, CleanupWatch};
+use cleanup_list::CleanupWatch;
 use ghost_list::GhostList;
 use std::alloc::Global;
 use std::marker::Model;
@@ -47,7 +47,7 @@ pub struct SerialArena {
     // The lengths of the placements together, and the sizes of the blocks.
     pub(crate) used: u64,
     pub(crate) allocated: u64,
-    pub(crate) kept: CleanupList<KeptBytes>,
+    pub(crate) kept: KeptStrings,
 }
 
 impl Model for SerialArena {
@@ -77,7 +77,7 @@ impl SerialArena {
             spans: GhostList::new(),
             used: 0,
             allocated: 0,
-            kept: CleanupList::new(alloc),
+            kept: KeptStrings::new(alloc),
         }
     }
 
@@ -99,7 +99,8 @@ impl SerialArena {
 
     /// The sizes of the blocks together, in bytes, their headers included.
     pub fn space_allocated(&self) -> u128
-        ensures { result ≡ allocated_of self.now }
+        ensures sizes { result ≡ allocated_of self.now }
+        ensures small { result < 2 ^ 64 }
     {
         self.allocated as u128
     }

@@ -1,8 +1,8 @@
-//! One caller's arena: it places messages in blocks, keeps long byte strings, and gives all up together.
+//! One caller's arena: it places messages in blocks, keeps byte strings, and gives all up together.
 //!
 //! It stands over `arena_block` and `cleanup_list`, implements `Memory` and `Part` of `arena_mem`, and the program's
 //! arena is made of it. Its contract: it is a finite map from places and buffers to bytes; its placements are laid in
-//! blocks by the policy, and no two share a byte; its end runs each cleanup once, the last one first.
+//! blocks by the policy, and no two share a byte; its end tells the watch each cleanup once, the last one first.
 #![tactic(auto)]
 
 mod arena;
@@ -10,7 +10,10 @@ mod blocks;
 mod kept;
 mod laws;
 mod memory;
+mod row;
+mod sharing;
 mod span;
+mod strings;
 #[cfg(test)]
 mod tests;
 

@@ -11,7 +11,6 @@ ghost use Rattle.serial_arena.specs.Serial.{place_in, next_placement, with_place
 
 use crate::arena::{SerialArena, SerialKey};
 use crate::blocks::{add_size, copy_part, fill_newest, make_room, read_part, rounded, write_part};
-use crate::kept::KeptBytes;
 use crate::span::Span;
 use arena_mem::{Buffer, MemFault, Memory, NoMemory, Place};
 
@@ -139,10 +138,7 @@ impl Memory for SerialArena {
         ensures kept { OnOk result (self.new ≡ with_kept self.old bytes.items) }
         ensures same { OnErr result (self.new ≡ self.old) }
     {
-        let number = match self.kept.register(KeptBytes { bytes }) {
-            Ok(number) => number,
-            Err((fault, refused)) => return Err((fault, refused.bytes)),
-        };
+        let number = self.kept.keep(bytes)?;
         Ok(Buffer {
             region: self.region,
             number,
@@ -166,14 +162,14 @@ impl Memory for SerialArena {
         ensures kept { OnOk result (self.new ≡ with_kept self.old bytes.now) }
         ensures same { OnErr result (self.new ≡ self.old) }
     {
-        let copy = bytes.to_vec(*self.blocks.allocator())?;
-        match self.keep(copy) {
-            Ok(buffer) => Ok(buffer),
-            Err((fault, _)) => Err(fault),
-        }
+        let number = self.kept.keep_copy(bytes)?;
+        Ok(Buffer {
+            region: self.region,
+            number,
+        })
     }
 
     fn kept(&self, buffer: Buffer) -> &[u8] {
-        &self.kept.item(buffer.number).bytes
+        self.kept.bytes(buffer.number)
     }
 }

@@ -154,3 +154,24 @@ fn kept_byte_strings_are_told_at_the_end(rt: HostRuntime) -> Result<(), Fail> {
     assert_eq!(rt; record, want);
     Ok(())
 }
+
+// Short copies share chunks, and a long one has a row of its own. The second chunk comes behind the first copy that is
+// looked at.
+#[test]
+fn copies_in_chunks_stay_as_they_are(rt: HostRuntime) -> Result<(), Fail> {
+    let mut arena = SerialArena::new(rt.alloc(), Policy::profile(), 0, 0, 0);
+    let long = vec![in rt.alloc(); 7; 5000]?;
+    let short = &long[..4096];
+    for _ in 0..7 {
+        let last = arena.keep_copy(short)?;
+        assert_eq!(rt; arena.kept(last), short);
+    }
+    let first = arena.keep_copy(b"the first")?;
+    let next = arena.keep_copy(short)?;
+    assert_eq!(rt; arena.kept(first), b"the first".as_slice());
+    assert_eq!(rt; arena.kept(next), short);
+    let alone = arena.keep_copy(&long)?;
+    assert_eq!(rt; arena.kept(alone), long.as_slice());
+    assert_eq!(rt; arena.registered(), 10);
+    Ok(())
+}

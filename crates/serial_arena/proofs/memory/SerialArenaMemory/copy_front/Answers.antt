@@ -1,5 +1,4 @@
 use Rattle.std.proofs.Common.{◌≡◌, ◌+◌, ◌<◌, ◌≤◌, ℕ, List, ◌++◌, length, take, drop, sym, ap, subst, ◌∙◌, arith}
-use Rattle.std.specs.Prelude.{map}
 use Rattle.std.specs.FinMap as fin
 use Rattle.std.proofs.lemmas.List.{take_at}
 use Rattle.arena_mem.specs.Places.{IsLive, bytes_at, used}
@@ -7,7 +6,6 @@ use Rattle.arena_mem.proofs.Maps.{len-written, used-written}
 use Rattle.arena_block.specs.Block.{BlockState, part_of, IsPart}
 use Rattle.serial_arena.specs.Serial.{SerialState, places_of}
 use Rattle.serial_arena.specs.Layout.{HoldsAll, block_at, with_written}
-use Rattle.serial_arena.specs.declared.kept.KeptBytes.{KeptBytes}
 use Rattle.serial_arena.proofs.Names.{with_bytes_here, with_bytes_beside, with_bytes_is, with_bytes_live}
 use Rattle.serial_arena.proofs.States.{held, lies_there, wrote, wrote_well, front_is, front_count}
 use Rattle.serial_arena.proofs.memory.SerialArenaMemory.copy_front.Goals as goal
@@ -58,7 +56,7 @@ invariant_of-self c =
 
 pub returns-clause-wrote : goal.returns-clause-wrote
 returns-clause-wrote c =
-    ap (λ blocks. held c.self.inside.owner c.self.inside.life c.self.inside.region c.self.inside.policy blocks c.self.inside.spans.items (map (λ (k : KeptBytes). k.bytes.items) c.self.inside.kept)) (blocks_are c)
+    ap (λ blocks. held c.self.inside.owner c.self.inside.life c.self.inside.region c.self.inside.policy blocks c.self.inside.spans.items c.self.inside.kept) (blocks_are c)
     ∙ wrote _ _ _ _ _ _ _ _ _ _ c.self.view_is c.self.invariant c.args.to 0 (front c) c.requires.to_live (fits c)
 
 pub returns-clause-here : goal.returns-clause-here

@@ -1,5 +1,5 @@
 use Rattle.std.proofs.Common.{◌≡◌, ℕ, ◌-◌, ◌+◌, List, [], ◌∷◌, ◌++◌, length, Some, refl, sym, ap, subst, ◌∙◌, arith}
-use Rattle.std.specs.Prelude.{map, replicate, is_ok, Result, Ok, Err, IsErr, IsErrAnd, IfErr}
+use Rattle.std.specs.Prelude.{replicate, is_ok, Result, Ok, Err, IsErr, IsErrAnd, IfErr}
 use Rattle.std.specs.Result.{result_err}
 use Rattle.std.proofs.lemmas.Option.{same_Some}
 use Rattle.std.proofs.lemmas.Bool.{false≢true}
@@ -9,7 +9,6 @@ use Rattle.arena_mem.specs.declared.place.Place.{Place}
 use Rattle.arena_mem.specs.Places.{AddsAtMostABlock, round8, used}
 use Rattle.arena_block.specs.Block.{BlockState}
 use Rattle.serial_arena.specs.declared.span.Span.{Span}
-use Rattle.serial_arena.specs.declared.kept.KeptBytes.{KeptBytes}
 use Rattle.serial_arena.specs.Laid.{Laid}
 use Rattle.serial_arena.specs.Layout.{HoldsAll, newest, blocks_for, size_for, with_filled, AreSpent, Refused}
 use Rattle.serial_arena.specs.Key.{key_of}
@@ -90,7 +89,7 @@ invariant_of-self-2 c =
 
 pub returns-clause-placed : goal.returns-clause-placed
 returns-clause-placed c =
-    (λ i. held c.self.inside.owner c.self.inside.life c.self.inside.region c.self.inside.policy (blocks_are c i) (spans_are c i) (map (λ (k : KeptBytes). k.bytes.items) c.self.inside.kept))
+    (λ i. held c.self.inside.owner c.self.inside.life c.self.inside.region c.self.inside.policy (blocks_are c i) (spans_are c i) c.self.inside.kept)
     ∙ placed _ _ _ _ _ _ _ _ _ _ c.self.view_is c.self.invariant c.args.bytes c.requires
 
 abbrev answer : After-self-2-1 → Place

@@ -1,11 +1,9 @@
 use Rattle.std.proofs.Common.{sym, ap, subst, ◌∙◌, arith}
-use Rattle.std.specs.Prelude.{map}
 use Rattle.std.specs.FinMap as fin
 use Rattle.arena_mem.specs.Places.{IsLive, used}
 use Rattle.arena_mem.proofs.Maps.{len-written, used-written}
 use Rattle.serial_arena.specs.Serial.{SerialState, places_of}
 use Rattle.serial_arena.specs.Layout.{HoldsAll}
-use Rattle.serial_arena.specs.declared.kept.KeptBytes.{KeptBytes}
 use Rattle.serial_arena.proofs.Names.{with_bytes_here, with_bytes_beside, with_bytes_is, with_bytes_live}
 use Rattle.serial_arena.proofs.States.{held, lies_there, wrote, wrote_well, write_fits}
 use Rattle.serial_arena.proofs.memory.SerialArenaMemory.write.Goals as goal
@@ -28,7 +26,7 @@ invariant_of-self c =
 
 pub returns-clause-wrote : goal.returns-clause-wrote
 returns-clause-wrote c =
-    ap (λ blocks. held c.self.inside.owner c.self.inside.life c.self.inside.region c.self.inside.policy blocks c.self.inside.spans.items (map (λ (k : KeptBytes). k.bytes.items) c.self.inside.kept)) c.write_part.ensures
+    ap (λ blocks. held c.self.inside.owner c.self.inside.life c.self.inside.region c.self.inside.policy blocks c.self.inside.spans.items c.self.inside.kept) c.write_part.ensures
     ∙ wrote _ _ _ _ _ _ _ _ _ _ c.self.view_is c.self.invariant c.args.place c.args.start c.args.bytes.now c.requires.live c.requires.fits
 
 pub returns-clause-here : goal.returns-clause-here
