@@ -17,6 +17,7 @@ mod laws;
 mod laying;
 mod list;
 mod make;
+mod seat_tells;
 mod single_steps;
 mod sizes;
 mod step_kinds;

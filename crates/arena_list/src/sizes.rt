@@ -1,5 +1,5 @@
 //! A caller adds up what the list has used.
-ghost use Rattle.std.specs.Prelude.{◌≡◌, ◌^◌, ◌<◌, ◌≤◌, slice_index};
+ghost use Rattle.std.specs.Prelude.{◌≡◌, ◌*◌, ◌^◌, ◌<◌, ◌≤◌, slice_index};
 ghost use Rattle.arena_list.specs.Words.Core.{slot_count};
 ghost use Rattle.arena_list.specs.Marks.OfParts.{marks};
 ghost use Rattle.arena_list.specs.Rule.Views.{hand, out};
@@ -21,6 +21,7 @@ impl<V: Part> ArenaList<V> {
         requires list { IsSeatOf self.now seat.old }
         ensures list { SameList seat.old seat.new }
         ensures summed { HasSummed marks (view seat.old) (view seat.new) result }
+        ensures small { result ≤ slot_count * 2 ^ 63 }
     {
         let head = self.look(seat);
         let mut left = head / SPAN;

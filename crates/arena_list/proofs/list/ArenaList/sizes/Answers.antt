@@ -27,3 +27,6 @@ returns-clause-summed g c = let e = c.look-head.ensures in let old = view c.args
     let none_left : c.loop-left.left ≡ 0 = (let a = c.loop-left-test.false in omega arith) in
     sum_ends M v sees old (view c.loop-left.seat) c.loop-left.link c.loop-left.sum e.view e.seen.0 e.moment
     (subst (λ (n : ℕ). IsSumming M v (view c.loop-left.seat) n c.loop-left.link c.loop-left.sum) none_left c.loop-left.invariant.1)
+
+pub returns-clause-small : goal.returns-clause-small
+returns-clause-small g c = let e = c.look-head.ensures in let sees = sees_after (view c.args.seat.now) (view c.look-head.new.seat) e.view e.seen.1 in let few = sees.few in let small = c.loop-left.invariant.1.small in omega arith
