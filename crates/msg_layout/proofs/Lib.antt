@@ -3,3 +3,4 @@ pub mod SoundLaws
 pub mod LayoutLaws
 pub mod FindLaws
 mod Sizes
+mod FarFields

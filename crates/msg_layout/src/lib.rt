@@ -17,6 +17,7 @@ pub use entry::{Entry, Mark};
 pub use laws::layouts_are_sound;
 pub use make::layouts;
 pub use no_memory::NoMemory;
+pub use slots::{single_bytes, slot_bytes};
 
 #[cfg(test)]
 mod tests;

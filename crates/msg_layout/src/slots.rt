@@ -11,8 +11,8 @@ use pb_schema::{Card, FieldType, Kind, MessageType};
 // The bytes of an array's slot, which the unknown bytes have too.
 pub(crate) const ARRAY_SLOT: u32 = 24;
 
-// The bytes of a field's slot.
-pub(crate) fn slot_bytes(field: &FieldType) -> u32
+/// The bytes of a field's slot.
+pub fn slot_bytes(field: &FieldType) -> u32
     ensures value { result ≡ slot_bytes field.now }
     ensures few { result ≤ 24 }
 {
@@ -22,8 +22,8 @@ pub(crate) fn slot_bytes(field: &FieldType) -> u32
     }
 }
 
-// The bytes of the slot of one value.
-fn single_bytes(kind: Kind) -> u32
+/// The bytes of the slot of one value.
+pub fn single_bytes(kind: Kind) -> u32
     ensures { result ≡ slot_of (value_type_of kind) }
 {
     match kind {
