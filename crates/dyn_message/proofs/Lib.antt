@@ -1,0 +1,26 @@
+pub mod Counting
+pub mod SameBytes
+pub mod There
+pub mod Focus
+pub mod Parts
+pub mod Entries
+pub mod Rewrites
+pub mod Messages
+pub mod Opening
+pub mod Empty
+pub mod Setting
+pub mod Words
+pub mod HeldBytes
+pub mod Changing
+pub mod Linking
+pub mod Bounded
+pub mod RoomLaws
+pub mod Growing
+pub mod ElementLaws
+pub mod Appending
+pub mod ListLaws
+pub mod UnknownLaws
+pub mod NestedLists
+mod Rows
+pub mod NodeFields
+pub mod ListCalls

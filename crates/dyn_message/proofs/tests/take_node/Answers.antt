@@ -1,0 +1,6 @@
+use Rattle.std.proofs.Common.{refl}
+use Rattle.dyn_message.proofs.NodeFields.{node_has}
+use Rattle.dyn_message.proofs.tests.take_node.Goals as goal
+
+pub unlink_sub-requires-clause-field : goal.unlink_sub-requires-clause-field
+unlink_sub-requires-clause-field g c = node_has _ _ c.args.types.now c.args.msg.type_no 8 c.requires.schema c.requires.node (record { field = _; found = refl; card = tt; type = tt })

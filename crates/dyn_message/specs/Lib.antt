@@ -1,0 +1,12 @@
+pub mod Feet
+pub mod Slots
+pub mod Strings
+pub mod Arrays
+pub mod Stands
+pub mod Writes
+pub mod Changes
+pub mod Fields
+pub mod Links
+pub mod Rooms
+pub mod Lists
+pub mod Unknown
