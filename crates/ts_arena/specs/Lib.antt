@@ -1,0 +1,9 @@
+pub mod Arena
+pub mod Sums
+pub mod Sharing
+pub mod Passes
+pub mod Settling
+pub mod Leases
+pub mod Ending
+pub mod Sides
+pub mod Places
