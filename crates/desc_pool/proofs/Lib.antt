@@ -1,0 +1,11 @@
+pub mod Checking
+pub mod Reading
+pub mod Gathering
+pub mod Held
+pub mod Nested
+pub mod Firsts
+pub mod Naming
+pub mod Members
+pub mod Repeated
+pub mod Order
+pub mod Answering

@@ -1,0 +1,6 @@
+use Rattle.std.proofs.Common.{◌≡◌, ◌++◌, take, map}
+use Rattle.desc_pool.specs.Linked.{message_type}
+use Rattle.desc_pool.proofs.link.push_types.Given as goal
+
+abbrev pub invariant-loop-message : goal.invariant-loop-message
+invariant-loop-message l = l.types.items ≡ l.initial.types.items ++ map (message_type l.names.list) (take l.message-index l.messages)

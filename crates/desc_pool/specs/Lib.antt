@@ -1,0 +1,12 @@
+pub mod Descriptors
+pub mod Contents
+pub mod Trees
+pub mod Files
+pub mod Payloads
+pub mod FilesFaults
+pub mod Names
+pub mod Refusals
+pub mod NameTables
+pub mod Rules
+pub mod Linked
+pub mod LinkTables
