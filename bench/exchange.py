@@ -18,7 +18,7 @@ import tempfile
 from pathlib import Path
 
 TOP = Path(__file__).resolve().parent.parent
-CRATES = ["no_memory", "arena_mem", "arena_list"]
+CRATES = ["no_memory", "ghost_list", "arena_mem", "arena_list"]
 ONE_TURN = """    let mut part = list.take_slot(seat, slot);
     if part.used < 1000 {
         part.used += 24;
