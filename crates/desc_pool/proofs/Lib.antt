@@ -9,3 +9,4 @@ pub mod Members
 pub mod Repeated
 pub mod Order
 pub mod Answering
+pub mod Lawfulness

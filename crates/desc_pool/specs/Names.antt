@@ -1,6 +1,6 @@
 -- The full names that a set declares, in the order in which they are looked at: a file's own enums, then each message
 -- with its enums right behind it.
-use Rattle.std.specs.Prelude.{◌+◌, ℕ, suc, Bool, true, false, not, ◌&&◌, List, [], ◌∷◌, ◌++◌, flat_map, map, sum_by, Option, None, Some, if◌then◌else◌}
+use Rattle.std.specs.Prelude.{ℕ, suc, Bool, true, false, not, ◌&&◌, List, [], ◌∷◌, ◌++◌, flat_map, map, sum_by, Option, None, Some, if◌then◌else◌}
 use Rattle.std.specs.List.{list_any}
 use Rattle.std.specs.Str.{bytes_eq}
 use Rattle.desc_pool.specs.declared.file.MessageDecl.{MessageDecl}

@@ -1,6 +1,6 @@
 -- Which sets aren't linked, one word for each refusal (proto3 guide, "Assigning Field Numbers", "Oneof" and "Packages
 -- and Name Resolution"; descriptor.proto, `FieldDescriptorProto`). Each tells the first thing that it is about.
-use Rattle.std.specs.Prelude.{◌+◌, ◌-◌, ◌*◌, ◌^◌, ℕ, suc, Bool, true, false, not, ◌&&◌, ◌||◌, ◌==◌, nat_lt, nat_le, List, [], ◌∷◌, ◌++◌, drop, length, map, filter, flat_map, codes, Option, None, Some, if◌then◌else◌}
+use Rattle.std.specs.Prelude.{◌^◌, ℕ, suc, Bool, false, not, ◌&&◌, ◌||◌, ◌==◌, nat_lt, nat_le, List, [], ◌∷◌, ◌++◌, length, filter, flat_map, codes, Option, None, Some, if◌then◌else◌}
 use Rattle.std.specs.Option.{option_map, is_some}
 use Rattle.std.specs.List.{list_any}
 use Rattle.std.specs.Map.{lookup}

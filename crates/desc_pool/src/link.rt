@@ -1,5 +1,7 @@
 // The schema of files that aren't refused.
-ghost use Rattle.std.specs.Prelude.{◌≡◌, ◌+◌, ◌<◌, ◌≤◌, ◌^◌, ◌==◌, ◌++◌, IfOk, OnOk, if◌then◌else◌, length, map};
+ghost use Rattle.std.specs.Prelude.{◌≡◌, ◌+◌, ◌<◌, ◌≤◌, ◌^◌, ◌==◌, ◌++◌, IfOk, OnOk, if◌then◌else◌, length, map, All};
+ghost use Rattle.pb_schema.specs.declared.schema.MessageType.{MessageType};
+ghost use Rattle.pb_schema.specs.Lawful.{most_oneofs};
 ghost use Rattle.desc_pool.specs.declared.file.MessageDecl.{MessageDecl};
 ghost use Rattle.desc_pool.specs.Names.{names_of, place_of};
 ghost use Rattle.desc_pool.specs.NameTables.{AreNames};
@@ -27,7 +29,8 @@ fn real_one(optional: usize) -> u32
 
 // How many real oneofs stand in front of each oneof of a message, and at the end how many there are.
 fn real_before(alloc: Global, message: &MessageDecl) -> Result<Vec<u32>, NoMemory>
-    ensures { IfOk result (λ before. CountsReal message.now before.items) }
+    ensures counts { IfOk result (λ before. CountsReal message.now before.items) }
+    ensures few { IfOk result (λ before. message.now.oneofs ≤ 2 ^ 22) }
 {
     if message.oneofs > MOST_ONEOFS {
         return Err(NoMemory);
@@ -158,7 +161,8 @@ fn message_type(
 ) -> Result<MessageType, NoMemory>
     requires names { AreNames names.now }
     requires few { length names.now.list < 2 ^ 32 }
-    ensures { IfOk result (λ ty. ty ≡ message_type names.now.list message.now) }
+    ensures value { IfOk result (λ ty. ty ≡ message_type names.now.list message.now) }
+    ensures few { IfOk result (λ ty. ty.oneofs ≤ most_oneofs) }
 {
     let before = real_before(alloc, message)?;
     let name = Name::of(alloc, message.name.as_str())?;
@@ -180,7 +184,9 @@ fn push_types(
 ) -> Result<(), NoMemory>
     requires names { AreNames names.now }
     requires few { length names.now.list < 2 ^ 32 }
-    ensures { OnOk result (types.new.items ≡ types.old.items ++ map (message_type names.now.list) messages.now) }
+    requires few_oneofs { All (λ (type : MessageType). type.oneofs ≤ most_oneofs) types.old.items }
+    ensures types { OnOk result (types.new.items ≡ types.old.items ++ map (message_type names.now.list) messages.now) }
+    ensures few_oneofs { OnOk result (All (λ (type : MessageType). type.oneofs ≤ most_oneofs) types.new.items) }
 {
     for message in messages {
         let ty = message_type(alloc, names, message)?;
@@ -198,7 +204,8 @@ pub(crate) fn schema_of(
     requires names { AreNames names.now }
     requires list { names.now.list ≡ names_of files.now }
     requires few { length names.now.list < 2 ^ 32 }
-    ensures { IfOk result (λ schema. schema ≡ schema_of files.now) }
+    ensures value { IfOk result (λ schema. schema ≡ schema_of files.now) }
+    ensures few_oneofs { IfOk result (λ schema. All (λ (type : MessageType). type.oneofs ≤ most_oneofs) schema.types) }
 {
     let mut types = Vec::new(alloc);
     for file in files {

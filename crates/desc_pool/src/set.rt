@@ -1,5 +1,6 @@
 // The schema of a descriptor set.
 ghost use Rattle.std.specs.Prelude.{◌≡◌, ◌≤◌, ◌^◌, IfOk, length};
+ghost use Rattle.pb_schema.specs.Lawful.{Lawful};
 ghost use Rattle.desc_pool.specs.Linked.{Answers, linked, linked_set};
 
 use crate::fault::{ReadSetFault, SchemaFault};
@@ -17,10 +18,11 @@ const NAMES_END: usize = 1 << 32;
 
 /// The schema that a descriptor set gives, as `protoc --include_imports --descriptor_set_out=FILE` writes it, or the
 /// first refusal: all files are looked through for one kind of refusal before the next, in the order of
-/// [`SchemaFault`]'s variants.
+/// [`SchemaFault`]'s variants. The schema is lawful.
 pub fn read_set(alloc: Global, bytes: &[u8]) -> Result<Schema, ReadSetFault>
     requires { length bytes.now ≤ 2 ^ 22 }
-    ensures { Answers result (linked_set bytes.now) }
+    ensures answer { Answers result (linked_set bytes.now) }
+    ensures lawful { IfOk result Lawful }
 {
     match read_files(alloc, bytes) {
         Ok(files) => link_files(alloc, files.as_slice()),
@@ -32,7 +34,8 @@ pub fn read_set(alloc: Global, bytes: &[u8]) -> Result<Schema, ReadSetFault>
 }
 
 fn link_files(alloc: Global, files: &[FileDecl]) -> Result<Schema, ReadSetFault>
-    ensures { Answers result (linked files.now) }
+    ensures answer { Answers result (linked files.now) }
+    ensures lawful { IfOk result Lawful }
 {
     match link(alloc, files) {
         Ok(Ok(schema)) => Ok(schema),
@@ -42,7 +45,8 @@ fn link_files(alloc: Global, files: &[FileDecl]) -> Result<Schema, ReadSetFault>
 }
 
 fn link(alloc: Global, files: &[FileDecl]) -> Result<Result<Schema, SchemaFault>, NoMemory>
-    ensures { IfOk result (λ answer. answer ≡ linked files.now) }
+    ensures answer { IfOk result (λ answer. answer ≡ linked files.now) }
+    ensures lawful { IfOk result (λ answer. IfOk answer Lawful) }
 {
     let names = Names::of(alloc, files)?;
     if files.len() >= NAMES_END || names.list.as_slice().len() >= NAMES_END {

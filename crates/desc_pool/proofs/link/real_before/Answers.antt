@@ -1,4 +1,4 @@
-use Rattle.std.proofs.Common.{◌≡◌, ◌+◌, ◌∙◌, eqb, cond, sym, ap, subst}
+use Rattle.std.proofs.Common.{◌+◌, ◌∙◌, eqb, cond, sym, ap, subst}
 use Rattle.std.specs.Prelude.{slice_index}
 use Rattle.desc_pool.proofs.Members.{RealTo, real_more}
 use Rattle.desc_pool.proofs.link.real_before.Goals as goal

@@ -1,7 +1,6 @@
-use Rattle.std.proofs.Common.{◌≡◌, ◌<◌, ◌≤◌, ◌∙◌, ℕ, length, take, sym, ap, arith, length-take-le}
+use Rattle.std.proofs.Common.{◌∙◌, take, sym, ap, arith, length-take-le}
 use Rattle.std.specs.BTreeMap.{get_by_text}
 use Rattle.std.specs.Option.{unwrap_or}
-use Rattle.desc_pool.specs.Names.{times}
 use Rattle.desc_pool.proofs.Naming.{count_more, times_few}
 use Rattle.desc_pool.proofs.names.count_names.Goals as goal
 

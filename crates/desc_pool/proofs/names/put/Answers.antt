@@ -1,4 +1,4 @@
-use Rattle.std.proofs.Common.{◌≡◌, string_bytes, sym, ap}
+use Rattle.std.proofs.Common.{◌≡◌, string_bytes}
 use Rattle.std.proofs.lemmas.Map.Text.{btree_map_updates_text}
 use Rattle.std.proofs.lemmas.Result.{IfOk-at_ok}
 use Rattle.desc_pool.proofs.names.put.Goals as goal

@@ -1,4 +1,4 @@
-use Rattle.std.proofs.Common.{◌≡◌, ◌+◌, ◌∙◌, ℕ, Some, true, false, not, sym, ap, subst, arith}
+use Rattle.std.proofs.Common.{◌≡◌, ◌+◌, ◌∙◌, Some, true, false, not, sym, ap, subst, arith}
 use Rattle.desc_pool.specs.declared.file.FileDecl.{FileDecl}
 use Rattle.desc_pool.proofs.Firsts.{place_hit, place_miss}
 use Rattle.desc_pool.proofs.refusals.bad_syntax.Goals as goal

@@ -1,4 +1,4 @@
-use Rattle.std.proofs.Common.{◌≡◌, ◌∙◌, Some, refl, sym, ap}
+use Rattle.std.proofs.Common.{◌∙◌, Some, refl, sym, ap}
 use Rattle.std.specs.Option.{option_map}
 use Rattle.desc_pool.specs.declared.file.MessageDecl.{MessageDecl}
 use Rattle.desc_pool.specs.declared.file.FileDecl.{FileDecl}

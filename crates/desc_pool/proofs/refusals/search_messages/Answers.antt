@@ -1,4 +1,4 @@
-use Rattle.std.proofs.Common.{◌≡◌, ◌∙◌, refl, sym, ap}
+use Rattle.std.proofs.Common.{◌∙◌, refl, sym}
 use Rattle.std.specs.Option.{option_map}
 use Rattle.desc_pool.specs.declared.file.MessageDecl.{MessageDecl}
 use Rattle.desc_pool.specs.Refusals.{field_name}

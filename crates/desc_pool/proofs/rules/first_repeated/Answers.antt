@@ -1,9 +1,9 @@
-use Rattle.std.proofs.Common.{◌≡◌, ◌∙◌, Some, sym, ap}
+use Rattle.std.proofs.Common.{◌∙◌, Some, sym, ap}
 use Rattle.std.specs.BTreeMap.{get}
 use Rattle.std.specs.Ordering.{nat_cmp}
 use Rattle.std.specs.Option.{is_some, option_map}
 use Rattle.desc_pool.specs.Refusals.{field_name}
-use Rattle.desc_pool.proofs.Repeated.{noted_none, noted_twice, noted_once, noted_all}
+use Rattle.desc_pool.proofs.Repeated.{noted_twice, noted_once}
 use Rattle.desc_pool.proofs.rules.first_repeated.Goals as goal
 
 pub returns-then-is_some : goal.returns-then-is_some

@@ -1,4 +1,4 @@
-use Rattle.std.proofs.Common.{◌≡◌, ◌∙◌, sym, ap, ltb, ◌&&◌}
+use Rattle.std.proofs.Common.{◌∙◌, sym, ap, ltb, ◌&&◌}
 use Rattle.std.specs.Prelude.{slice_index}
 use Rattle.desc_pool.proofs.Members.{bad_index, bad_list, alone_or_not}
 use Rattle.desc_pool.proofs.rules.is_bad_member.Goals as goal
