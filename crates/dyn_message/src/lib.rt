@@ -22,6 +22,7 @@ mod string_lists;
 mod strings;
 mod unknown;
 
+pub use fields::is_set;
 pub use laws::{
     changes_join, changes_widen, feet_are_few, feet_are_there, growth_changes, old_or_fresh_joins,
     record_is_a_foot, same_bytes_stand, separate_messages_stay, strangers_change_nothing,
@@ -31,9 +32,11 @@ pub use lists::{append_scalar, count, element_scalar};
 pub use message::{clear, create};
 pub use message_lists::{append_sub, element_sub};
 pub use msg_ref::MsgRef;
-pub use scalar::{case_of, get_scalar, set_scalar};
+pub use rooms::list_at;
+pub use scalar::{case_of, get_scalar, number_at, set_scalar};
+pub use slot::{link_at, word};
 pub use string_lists::{append_bytes, element_bytes};
-pub use strings::{get_bytes, set_bytes};
+pub use strings::{bytes_in, get_bytes, set_bytes, slot_at};
 pub use unknown::{append_unknown, unknown_count, unknown_element};
 
 #[cfg(test)]
