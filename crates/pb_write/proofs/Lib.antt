@@ -1,0 +1,10 @@
+pub mod Gaining
+pub mod Parts
+pub mod Lists
+pub mod Singles
+pub mod Records
+pub mod Depths
+pub mod Values
+pub mod Taken
+pub mod Gathering
+pub mod Writing

@@ -1,0 +1,19 @@
+-- Text that is gathered for a sink, and handed over where there is no room left for it.
+use Rattle.std.specs.Prelude.{ℕ, List, ◌++◌, take, Option, Result, OnOk, OnErr}
+use Rattle.arena_mem.specs.declared.outside.Failed.{Failed}
+use Rattle.arena_mem.specs.Outside.{HasCause, TookPart, KeepsTaken, Gathers}
+use Rattle.pb_write.specs.declared.gathered.Gathered.{Gathered}
+
+-- the bytes that are gathered
+abbrev pub gathered_in : Gathered → List ℕ
+gathered_in out = take out.filled out.bytes
+
+-- what the sink took and what is gathered grew by the text; or else the sink took a front of both, and not all
+pub record Writes (was : Option (List ℕ)) (before : List ℕ) (now : Option (List ℕ)) (after : List ℕ) (result : Result (Unit {0}) Failed) (text : List ℕ) : Type 0 where
+  pub ok : OnOk result (Gathers was before now after text)
+  pub err : OnErr result (TookPart was now (before ++ text))
+
+-- the sink took no byte back, and failed only where its count rose
+pub record Sends (was now : Option (List ℕ)) (faults_before faults_now : ℕ) (result : Result (Unit {0}) Failed) : Type 0 where
+  pub longer : KeepsTaken was now
+  pub cause : HasCause faults_before faults_now result

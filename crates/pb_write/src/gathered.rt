@@ -1,0 +1,56 @@
+// Text that is gathered for a sink, so that the sink isn't called for each short piece.
+ghost use Rattle.std.specs.Prelude.{◌≡◌, ◌+◌, ◌≤◌, ◌++◌, [], length, take};
+
+use crate::room::ROOM_BYTES;
+
+/// Bytes that wait to be handed over, from the start of a room on.
+#[derive(Drop)]
+pub(crate) struct Gathered {
+    bytes: [u8; ROOM_BYTES],
+    filled: usize,
+    ghost within: { filled ≤ 65536 },
+}
+
+impl Gathered {
+    /// Nothing is gathered.
+    pub(crate) fn new() -> Gathered
+        ensures { take result.filled result.bytes ≡ [] }
+    {
+        Gathered {
+            bytes: [0u8; ROOM_BYTES],
+            filled: 0,
+        }
+    }
+
+    /// The bytes, where they lie.
+    pub(crate) fn text(&self) -> &[u8]
+        ensures { result.now ≡ take self.now.filled self.now.bytes }
+    {
+        &self.bytes[..self.filled]
+    }
+
+    /// How many bytes more there is room for.
+    pub(crate) fn room(&self) -> usize
+        ensures { result + self.now.filled ≡ 65536 }
+    {
+        ROOM_BYTES - self.filled
+    }
+
+    /// Nothing is gathered any more.
+    pub(crate) fn clear(&mut self)
+        ensures text { take self.new.filled self.new.bytes ≡ [] }
+        ensures room { self.new.filled ≡ 0 }
+    {
+        self.filled = 0;
+    }
+
+    /// Gathers bytes for which there is room.
+    pub(crate) fn push(&mut self, bytes: &[u8])
+        requires { self.old.filled + length bytes.now ≤ 65536 }
+        ensures { take self.new.filled self.new.bytes ≡ take self.old.filled self.old.bytes ++ bytes.now }
+    {
+        let end = self.filled + bytes.len();
+        self.bytes[self.filled..end].copy_from_slice(bytes);
+        self.filled = end;
+    }
+}

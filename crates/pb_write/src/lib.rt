@@ -1,0 +1,21 @@
+//! Writing messages: the text of a message of any schema, and its length.
+//!
+//! It stands on the messages of `dyn_message`, beside whatever reads or merges them, and below the program. Its contract:
+//! `size` is the length of the text of what a message stands for, and `write_message` hands exactly that text to a sink,
+//! or, where the sink failed, a front of it that isn't the whole. Neither takes memory or changes the message.
+#![tactic(auto)]
+
+mod backwards;
+mod counter;
+mod forwards;
+mod gathered;
+mod number;
+mod pieces;
+mod room;
+mod sending;
+mod target;
+mod text_size;
+mod write;
+
+pub use text_size::size;
+pub use write::write_message;
