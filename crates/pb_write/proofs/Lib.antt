@@ -8,3 +8,4 @@ pub mod Values
 pub mod Taken
 pub mod Gathering
 pub mod Writing
+pub mod Short

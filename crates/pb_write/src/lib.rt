@@ -9,6 +9,7 @@ mod backwards;
 mod counter;
 mod forwards;
 mod gathered;
+mod laws;
 mod number;
 mod pieces;
 mod room;
@@ -17,5 +18,6 @@ mod target;
 mod text_size;
 mod write;
 
+pub use laws::texts_are_short;
 pub use text_size::size;
 pub use write::write_message;
