@@ -292,9 +292,9 @@ fn write_value<M: Memory, S: Sink>(
     }
 }
 
-// Writes a message behind its length.
+/// Writes a message behind its length.
 #[cycle(forwards)]
-fn write_nested<M: Memory, S: Sink>(
+pub(crate) fn write_nested<M: Memory, S: Sink>(
     mem: &M,
     types: &Layouts,
     msg: MsgRef,
