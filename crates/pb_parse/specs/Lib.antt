@@ -1,0 +1,5 @@
+pub mod Contents
+pub mod Reading
+pub mod Parsing
+pub mod Numbers
+pub mod Whole

@@ -1,0 +1,229 @@
+// Records of fields that hold numbers, texts and bytes.
+ghost use Rattle.std.specs.Prelude.{◌≡◌, ◌≢◌, ◌-◌, ◌+◌, ◌*◌, ◌<◌, ◌≤◌, ◌^◌, ◌∷◌, [], ℕ, List, length, drop, true, IfOk, IfErr, IsOk, IsErr};
+ghost use Rattle.arena_mem.specs.Places.{NamesFullRegion};
+ghost use Rattle.pb_schema.specs.Kinds.{value_type_of};
+ghost use Rattle.pb_schema.specs.Tree.{Shape, Number, Bytes};
+ghost use Rattle.dyn_message.specs.Feet.{Foot, InPlace};
+ghost use Rattle.dyn_message.specs.Stands.{Stands, IsSingle, IsList};
+ghost use Rattle.dyn_message.specs.Changes.{Changes, NowStands};
+ghost use Rattle.dyn_message.specs.Fields.{IsMessageIn, IsNumberType, IsBytesType};
+ghost use Rattle.dyn_message.specs.Lists.{ListsNumber, ListsBytes, with_appended};
+ghost use Rattle.pb_parse.specs.Parsing.{IsCause, IsFor, fits_kind};
+ghost use Rattle.pb_parse.specs.Reading.{contents_read, record_at, with_taken};
+
+use crate::number::number_at;
+use crate::stop::Halt;
+use crate::unknown::MOST_ELEMENTS;
+use arena_mem::{MemFault, Memory};
+use dyn_message::{MsgRef, append_bytes, append_scalar, count, set_bytes, set_scalar};
+use msg_layout::tables::Layouts;
+use pb_schema::{FieldType, Kind};
+use pb_wire::WireRecord;
+
+/// Sets a field of one number to a record's. It takes no memory.
+pub fn set_number<M: Memory>(
+    mem: &mut M,
+    types: &Layouts,
+    msg: MsgRef,
+    bytes: &[u8],
+    found: WireRecord,
+    field: FieldType,
+)
+    requires message { IsMessageIn types.now (M.places mem.old) (M.buffers mem.old) msg }
+    requires taken { IsFor types.now msg.type_no bytes.now found field }
+    requires short { length bytes.now < 2 ^ 25 }
+    requires number { IsNumberType (value_type_of field.kind) }
+    requires single { IsSingle field.card }
+    ensures put { (left : ℕ) (t : Shape) (feet : List Foot) → Stands types.now (M.places mem.old) (M.buffers mem.old) msg t feet
+        → NowStands types.now (M.places mem.old) (M.buffers mem.old) (M.places mem.new) (M.buffers mem.new) msg (with_taken types.now left msg.type_no field (record_at found bytes.now) t) feet }
+    ensures sound { (left : ℕ) → IsOk (contents_read types.now left field found bytes.now) }
+    ensures changes { Changes M.key M.places M.buffers M.blocks 0 0 (InPlace msg.place ∷ []) mem.old mem.new }
+{
+    let Some((bits, _)) = number_at(bytes, found.payload, field.kind) else {
+        unreachable!()
+    };
+    set_scalar(mem, types, msg, field.number, bits);
+}
+
+/// Sets a field of one text or bytes to a record's payload.
+pub fn set_string<M: Memory>(
+    mem: &mut M,
+    types: &Layouts,
+    msg: MsgRef,
+    bytes: &[u8],
+    found: WireRecord,
+    field: FieldType,
+) -> Result<(), Halt>
+    requires message { IsMessageIn types.now (M.places mem.old) (M.buffers mem.old) msg }
+    requires taken { IsFor types.now msg.type_no bytes.now found field }
+    requires short { length bytes.now < 2 ^ 25 }
+    requires bytes { IsBytesType (value_type_of field.kind) }
+    requires single { IsSingle field.card }
+    ensures put { IfOk result (λ _. (left : ℕ) (t : Shape) (feet : List Foot) → Stands types.now (M.places mem.old) (M.buffers mem.old) msg t feet
+        → NowStands types.now (M.places mem.old) (M.buffers mem.old) (M.places mem.new) (M.buffers mem.new) msg (with_taken types.now left msg.type_no field (record_at found bytes.now) t) feet) }
+    ensures sound { IfOk result (λ _. (left : ℕ) → IsOk (contents_read types.now left field found bytes.now)) }
+    ensures stopped { IfErr result (IsCause (M.blocks mem.new) ((left : ℕ) → IsErr (contents_read types.now left field found bytes.now))) }
+    ensures changes { Changes M.key M.places M.buffers M.blocks 1 1 (InPlace msg.place ∷ []) mem.old mem.new }
+{
+    let payload = &bytes[found.payload as usize..found.end as usize];
+    if !is_string(field.kind, payload) {
+        return Err(Halt::Bad);
+    }
+    match set_bytes(mem, types, msg, field.number, payload) {
+        Ok(()) => Ok(()),
+        Err(fault) => Err(Halt::Refused(fault)),
+    }
+}
+
+// Whether bytes may be a value of a kind: a text is UTF-8.
+fn is_string(kind: Kind, bytes: &[u8]) -> bool
+    requires { IsBytesType (value_type_of kind) }
+    ensures { result ≡ fits_kind (value_type_of kind) bytes.now }
+{
+    match kind {
+        Kind::Text => match str::from_utf8(bytes) {
+            Ok(_) => true,
+            Err(_) => false,
+        },
+        _ => true,
+    }
+}
+
+/// Appends a record's number to a list.
+pub fn append_number<M: Memory>(
+    mem: &mut M,
+    types: &Layouts,
+    msg: MsgRef,
+    bytes: &[u8],
+    found: WireRecord,
+    field: FieldType,
+) -> Result<(), Halt>
+    requires message { IsMessageIn types.now (M.places mem.old) (M.buffers mem.old) msg }
+    requires taken { IsFor types.now msg.type_no bytes.now found field }
+    requires short { length bytes.now < 2 ^ 25 }
+    requires number { IsNumberType (value_type_of field.kind) }
+    requires list { IsList field.card }
+    requires one { found.wire ≢ 2 }
+    ensures put { IfOk result (λ _. (left : ℕ) (t : Shape) (feet : List Foot) → Stands types.now (M.places mem.old) (M.buffers mem.old) msg t feet
+        → NowStands types.now (M.places mem.old) (M.buffers mem.old) (M.places mem.new) (M.buffers mem.new) msg (with_taken types.now left msg.type_no field (record_at found bytes.now) t) feet) }
+    ensures sound { (left : ℕ) → IsOk (contents_read types.now left field found bytes.now) }
+    ensures stopped { IfErr result (IsCause (M.blocks mem.new) ⊥) }
+    ensures changes { (t : Shape) (feet : List Foot) → Stands types.now (M.places mem.old) (M.buffers mem.old) msg t feet → Changes M.key M.places M.buffers M.blocks 1 0 feet mem.old mem.new }
+{
+    let Some((bits, _)) = number_at(bytes, found.payload, field.kind) else {
+        unreachable!()
+    };
+    match append_one(mem, types, msg, field.number, bits) {
+        Ok(()) => Ok(()),
+        Err(fault) => Err(Halt::Refused(fault)),
+    }
+}
+
+/// Appends the numbers of a packed record to a list, one by one.
+pub fn append_packed<M: Memory>(
+    mem: &mut M,
+    types: &Layouts,
+    msg: MsgRef,
+    bytes: &[u8],
+    found: WireRecord,
+    field: FieldType,
+) -> Result<(), Halt>
+    requires message { IsMessageIn types.now (M.places mem.old) (M.buffers mem.old) msg }
+    requires taken { IsFor types.now msg.type_no bytes.now found field }
+    requires short { length bytes.now < 2 ^ 25 }
+    requires number { IsNumberType (value_type_of field.kind) }
+    requires list { IsList field.card }
+    requires packed { found.wire ≡ 2 }
+    ensures put { IfOk result (λ _. (left : ℕ) (t : Shape) (feet : List Foot) → Stands types.now (M.places mem.old) (M.buffers mem.old) msg t feet
+        → NowStands types.now (M.places mem.old) (M.buffers mem.old) (M.places mem.new) (M.buffers mem.new) msg (with_taken types.now left msg.type_no field (record_at found bytes.now) t) feet) }
+    ensures sound { IfOk result (λ _. (left : ℕ) → IsOk (contents_read types.now left field found bytes.now)) }
+    ensures stopped { IfErr result (IsCause (M.blocks mem.new) ((left : ℕ) → IsErr (contents_read types.now left field found bytes.now))) }
+    ensures changes { (t : Shape) (feet : List Foot) → Stands types.now (M.places mem.old) (M.buffers mem.old) msg t feet → Changes M.key M.places M.buffers M.blocks found.payload_len 0 feet mem.old mem.new }
+{
+    let _schema = types.schema();
+    let front = &bytes[..found.end as usize];
+    let mut at = found.payload;
+    while at < found.end {
+        let Some((bits, behind)) = number_at(front, at, field.kind) else {
+            return Err(Halt::Bad);
+        };
+        if let Err(fault) = append_one(mem, types, msg, field.number, bits) {
+            return Err(Halt::Refused(fault));
+        }
+        at = behind;
+    }
+    Ok(())
+}
+
+/// Appends a record's payload to a list of texts or bytes.
+pub fn append_string<M: Memory>(
+    mem: &mut M,
+    types: &Layouts,
+    msg: MsgRef,
+    bytes: &[u8],
+    found: WireRecord,
+    field: FieldType,
+) -> Result<(), Halt>
+    requires message { IsMessageIn types.now (M.places mem.old) (M.buffers mem.old) msg }
+    requires taken { IsFor types.now msg.type_no bytes.now found field }
+    requires short { length bytes.now < 2 ^ 25 }
+    requires bytes { IsBytesType (value_type_of field.kind) }
+    requires list { IsList field.card }
+    ensures put { IfOk result (λ _. (left : ℕ) (t : Shape) (feet : List Foot) → Stands types.now (M.places mem.old) (M.buffers mem.old) msg t feet
+        → NowStands types.now (M.places mem.old) (M.buffers mem.old) (M.places mem.new) (M.buffers mem.new) msg (with_taken types.now left msg.type_no field (record_at found bytes.now) t) feet) }
+    ensures sound { IfOk result (λ _. (left : ℕ) → IsOk (contents_read types.now left field found bytes.now)) }
+    ensures stopped { IfErr result (IsCause (M.blocks mem.new) ((left : ℕ) → IsErr (contents_read types.now left field found bytes.now))) }
+    ensures changes { (t : Shape) (feet : List Foot) → Stands types.now (M.places mem.old) (M.buffers mem.old) msg t feet → Changes M.key M.places M.buffers M.blocks 2 1 feet mem.old mem.new }
+{
+    let payload = &bytes[found.payload as usize..found.end as usize];
+    if !is_string(field.kind, payload) {
+        return Err(Halt::Bad);
+    }
+    match append_some(mem, types, msg, field.number, payload) {
+        Ok(()) => Ok(()),
+        Err(fault) => Err(Halt::Refused(fault)),
+    }
+}
+
+// Appends a number. A list that has all that it may have is refused: no payload of fewer than 2^25 bytes comes so far.
+fn append_one<M: Memory>(
+    mem: &mut M,
+    types: &Layouts,
+    msg: MsgRef,
+    number: u32,
+    bits: u64,
+) -> Result<(), MemFault>
+    requires message { IsMessageIn types.now (M.places mem.old) (M.buffers mem.old) msg }
+    requires field { ListsNumber types.now msg.type_no number bits }
+    ensures appended { IfOk result (λ _. (t : Shape) (feet : List Foot) → Stands types.now (M.places mem.old) (M.buffers mem.old) msg t feet
+        → NowStands types.now (M.places mem.old) (M.buffers mem.old) (M.places mem.new) (M.buffers mem.new) msg (with_appended types.now msg.type_no number (Number bits) t) feet) }
+    ensures changes { (t : Shape) (feet : List Foot) → Stands types.now (M.places mem.old) (M.buffers mem.old) msg t feet → Changes M.key M.places M.buffers M.blocks 1 0 feet mem.old mem.new }
+    ensures spent { IfErr result (NamesFullRegion (M.blocks mem.new)) }
+{
+    if count(mem, types, msg, number) >= MOST_ELEMENTS {
+        return Err(MemFault::NoMemory);
+    }
+    append_scalar(mem, types, msg, number, bits)
+}
+
+// The same of a text or bytes.
+fn append_some<M: Memory>(
+    mem: &mut M,
+    types: &Layouts,
+    msg: MsgRef,
+    number: u32,
+    bytes: &[u8],
+) -> Result<(), MemFault>
+    requires message { IsMessageIn types.now (M.places mem.old) (M.buffers mem.old) msg }
+    requires field { ListsBytes types.now msg.type_no number bytes.now }
+    requires short { length bytes.now < 2 ^ 31 }
+    ensures appended { IfOk result (λ _. (t : Shape) (feet : List Foot) → Stands types.now (M.places mem.old) (M.buffers mem.old) msg t feet
+        → NowStands types.now (M.places mem.old) (M.buffers mem.old) (M.places mem.new) (M.buffers mem.new) msg (with_appended types.now msg.type_no number (Bytes bytes.now) t) feet) }
+    ensures changes { (t : Shape) (feet : List Foot) → Stands types.now (M.places mem.old) (M.buffers mem.old) msg t feet → Changes M.key M.places M.buffers M.blocks 2 1 feet mem.old mem.new }
+    ensures spent { IfErr result (NamesFullRegion (M.blocks mem.new)) }
+{
+    if count(mem, types, msg, number) >= MOST_ELEMENTS {
+        return Err(MemFault::NoMemory);
+    }
+    append_bytes(mem, types, msg, number, bytes)
+}
