@@ -9,3 +9,4 @@ pub mod Taken
 pub mod Gathering
 pub mod Writing
 pub mod Short
+pub mod Sample

@@ -26,3 +26,6 @@ pub use laws::texts_are_short;
 pub use text_rooms::TextRooms;
 pub use text_size::size;
 pub use write::write_message;
+
+#[cfg(test)]
+mod tests;
