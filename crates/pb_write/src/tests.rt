@@ -58,3 +58,17 @@ fn a_node_is_written(rt: HostRuntime) -> Result<(), Fail> {
     assert_eq!(rt; sink.taken(), &SAMPLE[..SAMPLE_BYTES]);
     Ok(())
 }
+
+#[test]
+fn a_sink_that_fails_has_a_front(rt: HostRuntime) -> Result<(), Fail> {
+    let types = layouts(rt.alloc(), builtin(rt.alloc())?)?;
+    let mut mem = PlainMemory::new(rt.alloc());
+    let msg = sample(&mut mem, &types, b"b")?;
+    for failing in 0..9 {
+        let mut sink = MemorySink::new(rt.alloc(), 4, vec![in rt.alloc(); failing; 1]?);
+        assert!(rt; write_message(&mem, &types, msg, &mut sink).is_err());
+        assert_eq!(rt; sink.faults(), 1);
+        assert_eq!(rt; sink.taken(), &SAMPLE[..4 * failing as usize]);
+    }
+    Ok(())
+}
