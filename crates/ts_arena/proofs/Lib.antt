@@ -6,3 +6,10 @@ pub mod Settled
 pub mod OneByOne
 pub mod Ends
 pub mod Regions
+pub mod Union
+pub mod Spots
+pub mod Indexed
+pub mod Entering
+pub mod Whole
+pub mod Frames
+pub mod SoleCalls

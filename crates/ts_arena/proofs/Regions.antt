@@ -37,7 +37,7 @@ module _ (a : ArenaState) (is : IsArena a) where
       some-injective s t (sym o.1 ∙ ap (get_elem? a.adopted) at ∙ q.1)) y)
       x
 
-  serial_of : (s : SerialState) → IsPartOf a s → IsSerial s
+  pub serial_of : (s : SerialState) → IsPartOf a s → IsSerial s
   serial_of s x = ⊎_elim (λ o. subst IsSerial o.3 (is.owners.held.each o.0 o.1 o.2).serial) (λ o. (is.adopted.each o.0 s o.1).serial) x
 
   pub all_apart : (p q : Place) → IsPlaceOf a p → IsPlaceOf a q → (p ≡ q → ⊥) → Apart p q

@@ -7,3 +7,5 @@ pub mod Leases
 pub mod Ending
 pub mod Sides
 pub mod Places
+pub mod Parts
+pub mod Sole

@@ -22,9 +22,6 @@ impl Arena {
     {
         arena_is_laid(&region);
         let _ = region.region();
-        match self.adopted.push(region) {
-            Ok(()) => Ok(()),
-            Err(refused) => Err((NoMemory, refused.value)),
-        }
+        self.adopted.push(region)
     }
 }

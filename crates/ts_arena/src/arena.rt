@@ -5,6 +5,7 @@ ghost use Rattle.serial_arena.specs.Serial.{used_of, allocated_of};
 ghost use Rattle.ts_arena.specs.Sums.{AreSmall};
 ghost use Rattle.ts_arena.specs.Arena.{arena_used, arena_allocated, arena_registered, used_at, allocated_at, registered_at, registered_of};
 
+use crate::adopted::Regions;
 use arena_block::Policy;
 use arena_list::Entry;
 use arena_mem::Part;
@@ -21,7 +22,7 @@ pub struct Arena {
     pub(crate) policy: Policy,
     // In the order in which the owners joined.
     pub(crate) owners: Vec<Entry<SerialArena>>,
-    pub(crate) adopted: Vec<SerialArena>,
+    pub(crate) adopted: Regions,
 }
 
 impl Model for Arena {
@@ -29,9 +30,9 @@ impl Model for Arena {
 
     ghost Value = { ArenaState };
 
-    ghost view = { λ a. record { life = a.life; policy = a.policy; owners = a.owners.items; adopted = a.adopted.items } };
+    ghost view = { λ a. record { life = a.life; policy = a.policy; owners = a.owners.items; adopted = a.adopted } };
 
-    ghost invariant = { λ a. IsArena (record { life = a.life; policy = a.policy; owners = a.owners.items; adopted = a.adopted.items }) };
+    ghost invariant = { λ a. IsArena (record { life = a.life; policy = a.policy; owners = a.owners.items; adopted = a.adopted }) };
 }
 
 /// What serial arenas have together.
@@ -104,7 +105,7 @@ impl Arena {
             life,
             policy,
             owners: Vec::new(alloc),
-            adopted: Vec::new(alloc),
+            adopted: Regions::new(alloc),
         }
     }
 
@@ -127,20 +128,20 @@ impl Arena {
     pub fn space_used(&self) -> u128
         ensures { result ≡ arena_used self.now }
     {
-        sums_by(&self.owners).used + sums_in(&self.adopted).used
+        sums_by(&self.owners).used + sums_in(self.adopted.list()).used
     }
 
     /// The sizes of all their blocks together, in bytes.
     pub fn space_allocated(&self) -> u128
         ensures { result ≡ arena_allocated self.now }
     {
-        sums_by(&self.owners).allocated + sums_in(&self.adopted).allocated
+        sums_by(&self.owners).allocated + sums_in(self.adopted.list()).allocated
     }
 
     /// How many cleanups are registered in them.
     pub fn registered(&self) -> u128
         ensures { result ≡ arena_registered self.now }
     {
-        sums_by(&self.owners).registered + sums_in(&self.adopted).registered
+        sums_by(&self.owners).registered + sums_in(self.adopted.list()).registered
     }
 }

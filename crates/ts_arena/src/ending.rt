@@ -77,6 +77,7 @@ impl Arena {
             owners,
             adopted: regions,
         } = self;
+        let regions = regions.into_list();
         let adopted = regions.len() as u32;
         let mut sums = Ended {
             registered: 0,

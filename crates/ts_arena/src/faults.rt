@@ -14,6 +14,16 @@ pub enum ShareFault {
     NoMemory,
 }
 
+/// Why a caller doesn't enter an arena alone.
+#[derive(Clone, Copy, Debug, PartialEq, Eq, Error)]
+pub enum SoleFault {
+    /// The caller owns nothing, and there are 64 owners. One slot is asked for.
+    #[error("{owners} owners and {asked} callers more are too many")]
+    TooManyCallers { owners: u32, asked: u32 },
+    #[error("no memory")]
+    NoMemory,
+}
+
 /// Why a shared arena isn't settled.
 #[derive(Clone, Copy, Debug, PartialEq, Eq, Error)]
 pub enum SettleFault {

@@ -1,8 +1,13 @@
 //! What holds of every arena.
-ghost use Rattle.std.specs.Prelude.{◌≡◌};
+ghost use Rattle.std.specs.Prelude.{◌≡◌, ℕ};
+ghost use Rattle.std.specs.FinMap as map;
+ghost use Rattle.serial_arena.specs.Serial.{SerialState, places_of, buffers_of, blocks_of};
+ghost use Rattle.ts_arena.specs.Arena.{ArenaState};
 ghost use Rattle.arena_mem.specs.declared.place.Place.{Place};
-ghost use Rattle.arena_mem.specs.Places.{Apart};
-ghost use Rattle.ts_arena.specs.Places.{IsPlaceOf};
+ghost use Rattle.arena_mem.specs.declared.place.Buffer.{Buffer};
+ghost use Rattle.arena_mem.specs.Places.{Apart, IsLive, IsKept};
+ghost use Rattle.ts_arena.specs.Places.{IsPartOf, IsPlaceOf};
+ghost use Rattle.ts_arena.specs.Sole.{arena_places, arena_buffers, arena_blocks, frame_of, KeepsAllElse};
 
 use crate::arena::Arena;
 
@@ -12,3 +17,21 @@ pub fn placements_lie_apart(arena: &Arena)
 {
     let _life = arena.life;
 }
+
+/// A law: in an arena as one memory each lookup goes to the part whose region the place or the buffer names, and there
+/// is such a part for all that is live or kept.
+pub fn lookups_go_to_the_region(arena: &Arena)
+    ensures places { (s : SerialState) (p : Place) → IsPartOf arena.now s → p.region ≡ s.region → map.get (arena_places arena.now) p ≡ map.get (places_of s) p }
+    ensures buffers { (s : SerialState) (b : Buffer) → IsPartOf arena.now s → b.region ≡ s.region → map.get (arena_buffers arena.now) b ≡ map.get (buffers_of s) b }
+    ensures blocks { (s : SerialState) → IsPartOf arena.now s → arena_blocks arena.now s.region ≡ blocks_of s s.region }
+    ensures live { (p : Place) → IsLive (arena_places arena.now) p → (s : SerialState) × IsPartOf arena.now s × (s.region ≡ p.region) }
+    ensures kept { (b : Buffer) → IsKept (arena_buffers arena.now) b → (s : SerialState) × IsPartOf arena.now s × (s.region ≡ b.region) }
+{
+    let _life = arena.life;
+}
+
+/// A law: two arenas with one frame, as the key of a sole use has it, differ in the bytes of placements and in what the
+/// caller's own serial arena has, and in nothing else.
+pub fn sole_use_keeps_all_else()
+    ensures { (at : ℕ) (before after : ArenaState) → frame_of at after ≡ frame_of at before → KeepsAllElse at before after }
+{}

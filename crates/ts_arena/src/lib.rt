@@ -5,6 +5,7 @@
 //! each cleanup once.
 #![tactic(auto)]
 
+mod adopted;
 mod adopting;
 mod arena;
 #[cfg(test)]
@@ -16,20 +17,26 @@ mod laws;
 mod lease;
 mod lease_memory;
 mod life_record;
+mod part_calls;
+mod parts;
 mod pass;
 mod settle;
 mod share;
 mod shared;
 mod side;
+mod sole;
+mod sole_memory;
+mod spot;
 #[cfg(test)]
 mod tests;
 mod used;
 
 pub use arena::Arena;
-pub use faults::{SettleFault, ShareFault};
-pub use laws::placements_lie_apart;
+pub use faults::{SettleFault, ShareFault, SoleFault};
+pub use laws::{lookups_go_to_the_region, placements_lie_apart, sole_use_keeps_all_else};
 pub use lease::Lease;
 pub use life_record::LifeRecord;
 pub use pass::Pass;
 pub use shared::Shared;
 pub use side::Side;
+pub use sole_memory::SoleMemory;

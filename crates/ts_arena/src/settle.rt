@@ -81,7 +81,7 @@ impl Shared {
         ensures refused { IfErr result (λ e. (e.1 ≡ self) × (e.2.items ≡ passes.items) × RefusesSettle self passes.items e.0) }
         ensures settled { IfOk result (λ a. IsSettledFrom self passes.items a) }
     {
-        let alloc = *self.adopted.allocator();
+        let alloc = self.adopted.allocator();
         let Ok(mut seats) = Vec::with_capacity(alloc, passes.len()) else {
             return Err((SettleFault::NoMemory, self, passes));
         };

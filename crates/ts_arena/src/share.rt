@@ -20,7 +20,7 @@ use serial_arena::SerialArena;
 use std::alloc::Global;
 
 /// How many slots there are.
-const SLOTS: u32 = 64;
+pub(crate) const SLOTS: u32 = 64;
 
 /// Whether the caller owns one of these.
 pub(crate) fn is_owner(owners: &[Entry<SerialArena>], who: u32) -> bool
@@ -103,7 +103,7 @@ fn least_free(owners: &[Entry<SerialArena>], spares: &[Entry<SerialArena>]) -> u
 }
 
 /// Adds an entry with an empty serial arena for a caller that owns nothing yet.
-fn add_spare(
+pub(crate) fn add_spare(
     alloc: Global,
     policy: Policy,
     life: u64,
@@ -214,7 +214,7 @@ impl Arena {
             owners,
             adopted,
         } = self;
-        let adopted_used = sums_in(&adopted).used;
+        let adopted_used = sums_in(adopted.list()).used;
         match ArenaList::make(alloc, life, owners, spares, callers) {
             Ok((list, seats)) => {
                 make_passes(seats, life, &mut passes);

@@ -1,6 +1,7 @@
 //! The arena while many callers share it.
 ghost use Rattle.std.specs.Prelude.{◌≡◌, ◌≤◌};
 
+use crate::adopted::Regions;
 use arena_block::Policy;
 use arena_list::ArenaList;
 use serial_arena::SerialArena;
@@ -14,7 +15,7 @@ pub struct Shared {
     pub(crate) life: u64,
     pub(crate) policy: Policy,
     pub(crate) list: ArenaList<SerialArena>,
-    pub(crate) adopted: Vec<SerialArena>,
+    pub(crate) adopted: Regions,
     // How many passes were made, and what the adopted regions use.
     pub(crate) made: u32,
     pub(crate) adopted_used: u128,
@@ -25,9 +26,9 @@ impl Model for Shared {
 
     ghost Value = { SharedState };
 
-    ghost view = { λ s. record { life = s.life; policy = s.policy; list = s.list; adopted = s.adopted.items } };
+    ghost view = { λ s. record { life = s.life; policy = s.policy; list = s.list; adopted = s.adopted } };
 
-    ghost invariant = { λ s. IsShared (record { life = s.life; policy = s.policy; list = s.list; adopted = s.adopted.items }) s.made s.adopted_used };
+    ghost invariant = { λ s. IsShared (record { life = s.life; policy = s.policy; list = s.list; adopted = s.adopted }) s.made s.adopted_used };
 }
 
 impl Shared {

@@ -18,7 +18,7 @@ make-requires c = let i = c.self.inside in let e = c.deref.ensures.value in reco
 }
 
 abbrev whole : After-make_passes → ArenaState
-whole c = record { life = c.self.inside.life; policy = c.self.inside.policy; owners = c.self.inside.owners.items; adopted = c.self.inside.adopted.items }
+whole c = record { life = c.self.inside.life; policy = c.self.inside.policy; owners = c.self.inside.owners.items; adopted = c.self.inside.adopted }
 
 pub invariant_of-shared : goal.invariant_of-shared
 invariant_of-shared c = let i = c.self.inside in let e = c.deref.ensures.value in
@@ -26,12 +26,12 @@ invariant_of-shared c = let i = c.self.inside in let e = c.deref.ensures.value i
     (subst (λ (os : Owners). AreSpares i.policy i.life os c.args.callers.now c.in-Ok-spares.spares.items) e c.in-Ok-spares.ensures.spares)
     (subst (λ (os : Owners). AreHeld i.life i.policy (os ++ c.in-Ok-spares.spares.items)) e c.in-Ok-spares.ensures.held)
     c.in-Ok-make.list c.in-Ok-make.ensures.list _ _ refl
-    (c.sums_in-adopted_used.ensures.used ∙ ap (λ (l : List SerialState). sum_by used_of l) c.deref-2.ensures.value)
-    (let small = c.sums_in-adopted_used.ensures.small.used in let long = c.deref-2.type_inv.1 in omega arith)
+    (c.sums_in-adopted_used.ensures.used ∙ ap (λ (l : List SerialState). sum_by used_of l) c.list.ensures)
+    (let small = c.sums_in-adopted_used.ensures.small.used in let long = c.list.type_inv.1 in omega arith)
 
 pub returns-in-Ok-make-clause-passes : goal.returns-in-Ok-make-clause-passes
 returns-in-Ok-make-clause-passes c = let i = c.self.inside in let e = c.deref.ensures.value in
-    subst (λ (a : ArenaState). AreFirstPasses a c.args.callers.now (record { life = i.life; policy = i.policy; list = c.in-Ok-make.list; adopted = i.adopted.items }) c.make_passes.new.passes.items) c.self.view_is
+    subst (λ (a : ArenaState). AreFirstPasses a c.args.callers.now (record { life = i.life; policy = i.policy; list = c.in-Ok-make.list; adopted = i.adopted }) c.make_passes.new.passes.items) c.self.view_is
     (first_passes (whole c) c.self.invariant c.args.callers.now c.in-Ok-spares.spares.items
     (subst (λ (os : Owners). AreSpares i.policy i.life os c.args.callers.now c.in-Ok-spares.spares.items) e c.in-Ok-spares.ensures.spares)
     (subst (λ (os : Owners). AreHeld i.life i.policy (os ++ c.in-Ok-spares.spares.items)) e c.in-Ok-spares.ensures.held)
