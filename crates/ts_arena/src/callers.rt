@@ -1,12 +1,16 @@
 //! Callers of the arena, over the clauses of its public calls alone.
-ghost use Rattle.std.specs.Prelude.{◌≡◌, ◌≢◌, ◌+◌, ◌^◌, ◌<◌, ◌≤◌, [], IfOk, IfErr, IfSome, length};
-ghost use Rattle.arena_mem.specs.Places.{IsPlaceable};
+ghost use Rattle.std.specs.Prelude.{◌≡◌, ◌≢◌, true, ◌+◌, ◌^◌, ◌<◌, ◌≤◌, [], IfOk, IfErr, IfSome, length};
+ghost use Rattle.std.specs.FinMap as map;
+ghost use Rattle.arena_mem.specs.declared.place.Place.{Place};
+ghost use Rattle.arena_mem.specs.Places.{IsPlaceable, IsLive, KeepsRest};
+ghost use Rattle.serial_arena.specs.Serial.{places_of};
 ghost use Rattle.life_ids.specs.Seats.{greatest_drawn};
 ghost use Rattle.ts_arena.specs.Arena.{first_adopted};
+ghost use Rattle.ts_arena.specs.Sole.{arena_places};
 ghost use Rattle.ts_arena.specs.Passes.{caller_of, steps_of, made_by, IsPassOf, AreAllOf, FitsPass};
 
-use crate::{Arena, Pass, SettleFault, ShareFault, Shared};
-use arena_mem::{MemFault, Memory};
+use crate::{Arena, Pass, SettleFault, ShareFault, Shared, SoleFault, lookups_go_to_the_region};
+use arena_mem::{MemFault, Memory, Place};
 use cleanup_list::CleanupWatch;
 use life_ids::{IdSource, IdsSpent, ThreadCache};
 use serial_arena::SerialArena;
@@ -20,6 +24,10 @@ pub(crate) enum GaveUp {
     Share(ShareFault),
     #[error("not settled: {0}")]
     Settle(SettleFault),
+    #[error("not entered: {0}")]
+    Sole(SoleFault),
+    #[error("not placed: {0}")]
+    Memory(MemFault),
     #[error("no id is left")]
     Ids(IdsSpent),
     #[error("no pass")]
@@ -225,11 +233,99 @@ pub(crate) fn settle_with_foreign(
     }
 }
 
-/// Adopts the first region of an arena: whether there was memory.
+/// Adopts the first region of an arena: whether there was memory. The places of the region are the arena's then.
 pub(crate) fn adopt_first(arena: &mut Arena, region: SerialArena) -> bool
     requires none { arena.old.adopted ≡ [] }
     requires life { region.life ≡ 0 }
     requires high { first_adopted ≤ region.region }
+    ensures live { result ≡ true → (p : Place) → IsLive (places_of region) p → IsLive (arena_places arena.new) p }
 {
-    arena.adopt(region).is_ok()
+    let is_adopted = arena.adopt(region).is_ok();
+    lookups_go_to_the_region(arena);
+    is_adopted
+}
+
+/// What the caller of a pass finds used, with the pass taken out of the list and put back.
+pub(crate) fn used_by_last(shared: &Shared, passes: &mut Vec<Pass>) -> Result<u128, GaveUp>
+    requires all { AreAllOf shared.now passes.old.items }
+    ensures all { AreAllOf shared.now passes.new.items }
+{
+    let Some(mut pass) = take_pass(shared, passes) else {
+        return Err(GaveUp::NoPass);
+    };
+    let used = shared.space_used(&mut pass);
+    put_pass(shared, passes, pass)?;
+    Ok(used)
+}
+
+/// Fills blocks by the policy in a lease: whether there was memory.
+pub(crate) fn fill_blocks(shared: &Shared, pass: Pass) -> (Pass, bool)
+    requires made { IsPassOf shared.now pass }
+    ensures made { IsPassOf shared.now result.0 }
+{
+    let _ = shared.life();
+    let mut lease = shared.enter(pass, ThreadCache::empty());
+    let is_filled = place_five(&mut lease).is_ok();
+    let (pass, _) = lease.leave();
+    (pass, is_filled)
+}
+
+/// Places 240, 8, 600, 40,000 and 8 bytes in any memory.
+fn place_five<M: Memory>(mem: &mut M) -> Result<(), MemFault>
+    ensures key { M.key mem.new ≡ M.key mem.old }
+{
+    mem.place(240)?;
+    mem.place(8)?;
+    mem.place(600)?;
+    mem.place(40_000)?;
+    mem.place(8)?;
+    Ok(())
+}
+
+/// Enters alone, places 16 bytes there, and copies the front of a place of any part of the arena to them, which it
+/// reads then. The arena has one place more afterwards, and what was live before has its bytes.
+pub(crate) fn copy_alone(arena: &mut Arena, caller: u32, from: Place) -> Result<(Place, u8), GaveUp>
+    requires live { IsLive (arena_places arena.old) from }
+    requires long { 8 ≤ from.len }
+    ensures count { IfOk result (λ _. map.len (arena_places arena.new) ≡ map.len (arena_places arena.old) + 1) }
+    ensures rest { KeepsRest (arena_places arena.old) (arena_places arena.new) }
+    ensures live { IfOk result (λ r. IsLive (arena_places arena.new) r.0) }
+    ensures len { IfOk result (λ r. r.0.len ≡ 16) }
+{
+    match arena.enter_sole(caller) {
+        Ok(mut sole) => copy_in(&mut sole, from),
+        Err(fault) => Err(GaveUp::Sole(fault)),
+    }
+}
+
+/// The same in any memory.
+fn copy_in<M: Memory>(mem: &mut M, from: Place) -> Result<(Place, u8), GaveUp>
+    requires live { IsLive (M.places mem.old) from }
+    requires long { 8 ≤ from.len }
+    ensures key { M.key mem.new ≡ M.key mem.old }
+    ensures count { IfOk result (λ _. map.len (M.places mem.new) ≡ map.len (M.places mem.old) + 1) }
+    ensures rest { KeepsRest (M.places mem.old) (M.places mem.new) }
+    ensures live { IfOk result (λ r. IsLive (M.places mem.new) r.0) }
+    ensures len { IfOk result (λ r. r.0.len ≡ 16) }
+{
+    match mem.place(16) {
+        Ok(to) => {
+            mem.copy_front(from, to, 8);
+            Ok((to, mem.read(to)[0]))
+        }
+        Err(fault) => Err(GaveUp::Memory(fault)),
+    }
+}
+
+/// Enters alone and places.
+pub(crate) fn place_alone(arena: &mut Arena, caller: u32, bytes: u32) -> Result<(), GaveUp>
+    requires bytes { IsPlaceable bytes }
+{
+    match arena.enter_sole(caller) {
+        Ok(mut sole) => match place_in(&mut sole, bytes) {
+            Ok(()) => Ok(()),
+            Err(fault) => Err(GaveUp::Memory(fault)),
+        },
+        Err(fault) => Err(GaveUp::Sole(fault)),
+    }
 }

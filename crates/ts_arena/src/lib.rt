@@ -1,8 +1,25 @@
 //! The arena that threads share: many callers each fill a part of it, and one owner settles, resets or ends it.
 //!
 //! It stands on the shared list of serial arenas, and the parsing workers stand on it. Its contract: while a caller's
-//! part is leased nobody else has it; a settled arena has each part as its pass left it last; `reset` and `end` tell
-//! each cleanup once.
+//! part is leased nobody else has it; a settled arena has each part as its pass left it last; an arena that is entered
+//! alone is one memory over all parts; `reset` and `end` tell each cleanup once.
+//!
+//! An example of use, whose calls the tests make:
+//!
+//! ```text
+//! let arena = Arena::new(alloc, Policy::profile(), ids.draw()?);
+//! let (shared, passes) = arena.share(&[4])?;        // a pass for each caller
+//! // on the caller's own thread:
+//! let mut lease = shared.enter(pass, cache);        // its own serial arena, as it left it last
+//! let placed = lease.place(8);
+//! let (pass, cache) = lease.leave();                // by the cache it comes back without a step on the list
+//! // with all passes back:
+//! let mut arena = shared.settle(passes)?;
+//! let mut sole = arena.enter_sole(7)?;              // one memory over all parts
+//! let place = sole.place(8)?;                       // in the serial arena of caller 7
+//! sole.write(place, 0, &[7]);
+//! let record = arena.reset(&mut ids, &mut watch)?;  // each cleanup once, and then the next life
+//! ```
 #![tactic(auto)]
 
 mod adopted;

@@ -2,10 +2,10 @@
 ghost use Rattle.std.specs.Prelude.{◌≡◌, ◌≤◌, []};
 
 use crate::callers::{
-    adopt_first, enter_over_two_lives, settle_with_foreign, share_among, share_with_one, take_pass,
-    visit,
+    adopt_first, copy_alone, enter_over_two_lives, fill_blocks, place_alone, put_pass, settle_one,
+    settle_with, settle_with_foreign, share_among, share_with_one, take_pass, used_by_last, visit,
 };
-use crate::{Arena, LifeRecord, SettleFault, ShareFault};
+use crate::{Arena, LifeRecord, SettleFault, ShareFault, SoleFault};
 use arena_block::Policy;
 use arena_mem::Memory;
 use cleanup_list::{ListWatch, SilentWatch};
@@ -142,5 +142,104 @@ fn ids_that_are_spent_keep_an_arena_as_it_is(rt: HostRuntime) -> Result<(), Fail
     let mut arena = new_arena(rt.alloc(), 5);
     assert_eq!(rt; arena.reset(&mut ids, &mut SilentWatch), Err(IdsSpent));
     assert_eq!(rt; arena.life(), 5);
+    Ok(())
+}
+
+#[test]
+fn a_lease_fills_blocks_by_the_policy(rt: HostRuntime) -> Result<(), Fail> {
+    let (shared, pass) = share_with_one(new_arena(rt.alloc(), 5))?;
+    let (pass, is_filled) = fill_blocks(&shared, pass);
+    assert!(rt; is_filled);
+    let arena = settle_one(shared, pass, rt.alloc())?;
+    assert_eq!(rt;
+        (arena.space_used(), arena.space_allocated()),
+        (40_856, 74_576)
+    );
+    Ok(())
+}
+
+#[test]
+fn a_dropped_pass_keeps_an_arena_shared(rt: HostRuntime) -> Result<(), Fail> {
+    let (shared, mut passes) = share_among(new_arena(rt.alloc(), 5), &[4, 7, 9])?;
+    let Some(pass) = take_pass(&shared, &mut passes) else {
+        assert!(rt; false);
+        return Ok(());
+    };
+    let (pass, _, is_placed, _) = visit(&shared, pass, ThreadCache::empty(), 32);
+    assert!(rt; is_placed);
+    put_pass(&shared, &mut passes, pass)?;
+    take_pass(&shared, &mut passes);
+    let wanted = SettleFault::PassesOut { made: 3, given: 2 };
+    let Err((fault, shared, mut passes)) = settle_with(shared, passes) else {
+        assert!(rt; false);
+        return Ok(());
+    };
+    assert_eq!(rt; (fault, used_by_last(&shared, &mut passes)?), (wanted, 32));
+    let Err((fault, shared, mut passes)) = settle_with(shared, passes) else {
+        assert!(rt; false);
+        return Ok(());
+    };
+    assert_eq!(rt; (fault, used_by_last(&shared, &mut passes)?), (wanted, 32));
+    Ok(())
+}
+
+#[test]
+fn a_second_try_settles_with_all_passes(rt: HostRuntime) -> Result<(), Fail> {
+    let (shared, mut passes) = share_among(new_arena(rt.alloc(), 5), &[4, 7, 9])?;
+    let Some(last) = take_pass(&shared, &mut passes) else {
+        assert!(rt; false);
+        return Ok(());
+    };
+    let Err((fault, shared, mut passes)) = settle_with(shared, passes) else {
+        assert!(rt; false);
+        return Ok(());
+    };
+    assert_eq!(rt; fault, SettleFault::PassesOut { made: 3, given: 2 });
+    put_pass(&shared, &mut passes, last)?;
+    let Ok(arena) = settle_with(shared, passes) else {
+        assert!(rt; false);
+        return Ok(());
+    };
+    assert_eq!(rt; (arena.life(), arena.owners()), (5, 0));
+    Ok(())
+}
+
+#[test]
+fn a_sole_use_reads_an_adopted_region_and_places_in_its_own(rt: HostRuntime) -> Result<(), Fail> {
+    let mut arena = new_arena(rt.alloc(), 5);
+    let mut region = SerialArena::new(rt.alloc(), Policy::profile(), 0, 0, 70_000);
+    let place = region.place(8)?;
+    region.write(place, 0, &[42]);
+    let is_adopted = adopt_first(&mut arena, region);
+    assert!(rt; is_adopted);
+    if is_adopted {
+        let (copy, byte) = copy_alone(&mut arena, 9, place)?;
+        assert_eq!(rt; (copy.region, byte), (0, 42));
+        let (again, byte) = copy_alone(&mut arena, 4, copy)?;
+        assert_eq!(rt; (again.region, byte), (1, 42));
+        assert_eq!(rt; (arena.owners(), arena.space_used()), (2, 40));
+    }
+    Ok(())
+}
+
+#[test]
+fn the_sixty_fifth_owner_is_refused(rt: HostRuntime) -> Result<(), Fail> {
+    let mut arena = new_arena(rt.alloc(), 5);
+    for caller in 0..64 {
+        place_alone(&mut arena, caller, 8)?;
+    }
+    place_alone(&mut arena, 63, 8)?;
+    let Err(fault) = arena.enter_sole(64) else {
+        assert!(rt; false);
+        return Ok(());
+    };
+    assert_eq!(rt;
+        fault,
+        SoleFault::TooManyCallers {
+            owners: 64,
+            asked: 1
+        }
+    );
+    assert_eq!(rt; (arena.owners(), arena.space_used()), (64, 65 * 8));
     Ok(())
 }
