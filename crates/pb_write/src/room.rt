@@ -51,6 +51,7 @@ impl Target for Room {
 
     ghost holds = { λ room s. drop room.at room.bytes ≡ s };
 
+    #[inline]
     fn put_bytes(&mut self, bytes: &[u8]) -> Result<(), Full> {
         if bytes.len() > self.at {
             return Err(Full);
@@ -61,12 +62,17 @@ impl Target for Room {
         Ok(())
     }
 
+    #[inline]
     fn put_varint(&mut self, value: u64) -> Result<(), Full> {
+        if value < 128 {
+            return self.put_bytes(&[value as u8]);
+        }
         let mut varint = [0u8; 10];
         let count = put_varint(&mut varint, 0, value);
         self.put_bytes(&varint[..count])
     }
 
+    #[inline]
     fn len(&self) -> u64 {
         (ROOM_BYTES - self.at) as u64
     }
