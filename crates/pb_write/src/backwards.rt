@@ -29,13 +29,13 @@ use pb_schema::{Card, FieldType, Kind};
 pub(crate) const MOST_LEVELS: u64 = 1 << 63;
 
 /// The wire type of a length and as many bytes.
-const DELIMITED: u32 = 2;
+pub(crate) const DELIMITED: u32 = 2;
 
 /// The word of a slot of 24 bytes that tells its form, which is 0 where it holds nothing.
 const FORM: usize = 5;
 
 /// The bytes of a slot of unknown bytes.
-const PIECE_BYTES: u32 = 24;
+pub(crate) const PIECE_BYTES: u32 = 24;
 
 /// Puts the text of a message in front of what the target has taken. Messages nest in it at most `left` levels deep.
 #[cycle(backwards)]

@@ -16,7 +16,7 @@ ghost use Rattle.dyn_message.specs.Stands.{IsSingle, ValueStands, ValuesStand, H
 ghost use Rattle.pb_write.specs.Puts.{IsEntryIn, front_of, fields_in};
 ghost use Rattle.pb_write.specs.Writes.{Sends, Writes, gathered_in};
 
-use crate::backwards::{is_held, put_field, put_nested};
+use crate::backwards::{DELIMITED, PIECE_BYTES, is_held, put_field, put_nested};
 use crate::counter::{elements_size, message_size};
 use crate::gathered::Gathered;
 use crate::pieces::{gather_framed, gather_front, gather_number, gather_tag, gather_varint};
@@ -27,12 +27,6 @@ use dyn_message::{MsgRef, bytes_in, link_at, list_at, number_at, slot_at};
 use msg_layout::tables::Layouts;
 use msg_layout::{Entry, single_bytes};
 use pb_schema::{Card, FieldType, Kind};
-
-/// The wire type of a length and as many bytes.
-const DELIMITED: u32 = 2;
-
-/// The bytes of a slot of unknown bytes.
-const PIECE_BYTES: u32 = 24;
 
 /// Writes the text of a message. Messages nest in it at most `left` levels deep.
 #[cycle(forwards)]
