@@ -1,8 +1,8 @@
 -- An owner more, and the table of slots.
-use Rattle.std.proofs.Common.{◌≡◌, ◌≢◌, ℕ, zero, suc, ◌+◌, ◌<◌, ◌≤◌, true, false, List, [], ◌∷◌, ◌++◌, length, map, get_or, set, refl, sym, ap, subst, ◌∙◌, ⊎_elim, arith}
+use Rattle.std.proofs.Common.{◌≡◌, ℕ, ◌+◌, ◌<◌, ◌≤◌, List, [], length, map, get_or, set, refl, sym, ap, subst, ◌∙◌, arith}
 use Rattle.std.proofs.lemmas.Bool.{false≢true}
 use Rattle.std.proofs.lemmas.List.{map-append, get_or-set_same, get_or-set_other}
-use mathlib.Core.Option.{some, some-injective}
+use mathlib.Core.Option.{some}
 use mathlib.Core.Logic.{dite}
 use native.Mathlib.Decide.{ℕ_discrete}
 use lib.ListN.{get_elem?}
@@ -15,9 +15,9 @@ use Rattle.arena_list.specs.Rule.Founded.{Differ, slot, caller}
 use Rattle.arena_list.proofs.Words.Few.{at_map, len_map, few, at_mapped}
 use Rattle.arena_list.proofs.Words.Lists.{at_one}
 use Rattle.arena_list.proofs.Rule.Opening.{at_has}
-use Rattle.ts_arena.specs.Arena.{ArenaState, IsArena, AreOwners}
+use Rattle.ts_arena.specs.Arena.{ArenaState, AreOwners}
 use Rattle.ts_arena.specs.Sharing.{Owners, AddsSpare}
-use Rattle.ts_arena.specs.Parts.{no_owner, owner_at, IsSlotTable}
+use Rattle.ts_arena.specs.Parts.{no_owner, owner_at}
 use Rattle.ts_arena.specs.Sole.{Owns, OwnsNothing, CanEnter, IsEntered}
 use Rattle.ts_arena.proofs.Finding.{differ_more}
 use Rattle.ts_arena.proofs.Sharing.{held_then}

@@ -1,5 +1,5 @@
 -- Searches in lists of numbers.
-use Rattle.std.proofs.Common.{◌≡◌, ◌≢◌, ℕ, zero, suc, ◌+◌, ◌<◌, ◌≤◌, ◌⊎◌, Bool, true, false, not, cond, eqb, ◌||◌, List, [], ◌∷◌, ◌++◌, map, length, take, get_or, sym, refl, ap, subst, ◌∙◌, ⊎_elim, arith, eq-eqb, ne_eqb}
+use Rattle.std.proofs.Common.{◌≡◌, ◌≢◌, ℕ, zero, suc, ◌+◌, ◌<◌, ◌≤◌, Bool, true, false, cond, eqb, ◌||◌, List, [], ◌∷◌, ◌++◌, map, length, take, get_or, sym, refl, ap, subst, ◌∙◌, ⊎_elim, arith}
 use Rattle.std.specs.List.{range_with_len}
 use Rattle.std.proofs.lemmas.Bool.{cases_Bool, eqb-true, false≢true}
 use mathlib.Core.Logic.{dite}
@@ -7,7 +7,7 @@ use native.Mathlib.Decide.{ℕ_discrete}
 use mathlib.Core.Option.{some, some-injective, some-ne-none}
 use lib.ListN.{get_elem?}
 use Rattle.arena_list.specs.Rule.Founded.{Differ, has}
-use Rattle.arena_list.proofs.Words.Lists.{at_one, at_below, at_there, at_end}
+use Rattle.arena_list.proofs.Words.Lists.{at_one, at_below, at_end}
 use Rattle.arena_list.proofs.Words.Few.{at_map, at_mapped, len_map, few}
 use Rattle.arena_list.proofs.Rule.Opening.{has_at, at_has}
 

@@ -1,9 +1,8 @@
 -- What an arena's list and seats make of a shared arena and its passes.
-use Rattle.std.proofs.Common.{◌≡◌, ◌≢◌, ℕ, ◌+◌, ◌^◌, ◌<◌, ◌≤◌, ◌⊎◌, Bool, true, false, List, [], ◌∷◌, ◌++◌, map, length, sym, refl, ap, subst, ◌∙◌, ⊎_elim, inl, inr, arith, Option, Some, None}
+use Rattle.std.proofs.Common.{◌≡◌, ℕ, ◌^◌, ◌<◌, Bool, true, false, List, ◌++◌, map, length, sym, refl, ap, subst, ◌∙◌, ⊎_elim, arith, Some, None}
 use Rattle.std.proofs.lemmas.Option.{none-some}
 use mathlib.Core.Option.{some}
 use lib.ListN.{get_elem?}
-use Rattle.arena_block.specs.declared.policy.Policy.{Policy}
 use Rattle.serial_arena.specs.Serial.{SerialState, used_of}
 use Rattle.serial_arena.specs.contracts.arena.SerialArena.{the_row}
 use Rattle.arena_list.specs.declared.entry.Entry.{Entry}
@@ -11,9 +10,8 @@ use Rattle.arena_list.specs.declared.list.ArenaList.{ArenaList}
 use Rattle.arena_list.specs.declared.list.ListSeat.{ListSeat}
 use Rattle.arena_list.specs.declared.for_clauses.mark.Mark.{Mark}
 use Rattle.arena_list.specs.declared.for_clauses.view.View.{View}
-use Rattle.arena_list.specs.Rule.Founded.{others_of, has, slot, caller}
 use Rattle.arena_list.specs.Rule.Views.{hand, who, mine, spare, when, unless}
-use Rattle.arena_list.specs.Calls.Seats.{view, IsSeatOf, IsAmong, HasValue}
+use Rattle.arena_list.specs.Calls.Seats.{view}
 use Rattle.arena_list.specs.Making.Made.{IsMadeOf, IsFirst, AreFirst}
 use Rattle.arena_list.proofs.Words.Lists.{at_below, at_there}
 use Rattle.arena_list.proofs.Words.Few.{at_mapped, len_map}
@@ -21,9 +19,9 @@ use Rattle.arena_list.proofs.Steps.Seats.{at_append}
 use Rattle.arena_list.proofs.Rule.Opening.{filter_tells}
 use Rattle.arena_list.proofs.Calls.SeatFacts.{mine_tells}
 use Rattle.ts_arena.specs.declared.pass.Pass.{Pass}
-use Rattle.ts_arena.specs.Arena.{ArenaState, IsArena, IsOwned, AreHeld, AreOwners}
+use Rattle.ts_arena.specs.Arena.{ArenaState, IsArena, IsOwned, AreHeld}
 use Rattle.ts_arena.specs.Sharing.{Owners, AreSpares}
-use Rattle.ts_arena.specs.Passes.{SharedState, serial_meter, pass_of, caller_of, slot_of, HasPart, IsPassOf, IsShared, IsSharedFrom, IsFirstPass, AreFirstPasses, made_by, resting, adopted_used}
+use Rattle.ts_arena.specs.Passes.{SharedState, serial_meter, pass_of, IsPassOf, IsShared, IsSharedFrom, IsFirstPass, AreFirstPasses, adopted_used}
 
 -- a slot that isn't in the list is a spare
 pub spare_tells : (v : View Mark) (s : ℕ) → spare v ≡ Some s → (mine v ≡ None) × ((hand v).slot ≡ s)

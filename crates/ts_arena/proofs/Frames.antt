@@ -1,5 +1,5 @@
 -- What a sole use doesn't change.
-use Rattle.std.proofs.Common.{◌≡◌, ◌≢◌, ℕ, zero, suc, ◌+◌, ◌<◌, ◌≤◌, List, [], ◌∷◌, ◌++◌, length, map, get_or, set, refl, sym, ap, subst, ◌∙◌, ◌⊎◌, inl, inr, arith}
+use Rattle.std.proofs.Common.{◌≡◌, ◌≢◌, ℕ, zero, suc, ◌<◌, ◌≤◌, List, [], ◌∷◌, length, map, get_or, set, refl, sym, ap, ◌∙◌, ◌⊎◌, inl, inr, arith}
 use Rattle.std.proofs.Math.ListN.{get_or-eq_default}
 use Rattle.std.proofs.lemmas.Bool.{cases_lt}
 use mathlib.Core.Option.{some, some-injective}
@@ -11,13 +11,13 @@ use Rattle.std.proofs.lemmas.List.{get_or-set_same, get_or-set_other}
 use mathlib.Core.Logic.{dite}
 use native.Mathlib.Decide.{ℕ_discrete}
 use Rattle.arena_mem.specs.declared.place.Place.{Place}
-use Rattle.serial_arena.specs.Serial.{SerialState, Placement, with_place, with_bytes, with_kept, rewritten}
+use Rattle.serial_arena.specs.Serial.{SerialState, Placement, with_bytes, rewritten}
 use Rattle.arena_list.specs.declared.entry.Entry.{Entry}
 use Rattle.ts_arena.specs.declared.spot.Spot.{Spot}
 use Rattle.ts_arena.specs.declared.spot.Spot.TheVariants.{Owner, Adopted}
 use Rattle.ts_arena.specs.Arena.{ArenaState}
 use Rattle.ts_arena.specs.Sharing.{Owners}
-use Rattle.ts_arena.specs.Parts.{no_part, no_owner, owner_at, region_at, owner_with, IsSpot, part_at, with_part}
+use Rattle.ts_arena.specs.Parts.{no_part, no_owner, owner_at, owner_with, IsSpot, part_at, with_part}
 use Rattle.ts_arena.specs.Sole.{unwritten, emptied, unwritten_owner, emptied_owner, frame_of, KeepsAllElse}
 use Rattle.ts_arena.proofs.Spots.{or_at, get_map, set_twice, map_set, map_set_same, unwritten_bytes}
 

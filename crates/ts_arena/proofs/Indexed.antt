@@ -1,17 +1,15 @@
 -- The index of adopted regions, and the table of slots.
-use Rattle.std.proofs.Common.{◌≡◌, ◌≢◌, ◌⊎◌, ℕ, zero, suc, ◌+◌, ◌<◌, ◌≤◌, Bool, true, false, cond, List, [], ◌∷◌, ◌++◌, length, map, get_or, set, Option, Some, None, refl, sym, ap, subst, ◌∙◌, ⊎_elim, arith}
+use Rattle.std.proofs.Common.{◌≡◌, ◌≢◌, ℕ, ◌<◌, false, List, [], ◌∷◌, ◌++◌, length, set, Some, sym, ap, subst, ◌∙◌, ⊎_elim}
 use Rattle.std.specs.Ordering.{nat_cmp, is_eq}
 use Rattle.std.specs.FinMap.{nat_cmp-IsAntisymmetric}
 use Rattle.std.proofs.lemmas.Bool.{false_from_ne_true}
 use Rattle.std.proofs.lemmas.Option.{same_Some}
 use Rattle.arena_mem.proofs.Entries.{one_key}
-use Rattle.std.specs.BTreeMap.{BTreeMap, get, Updates, IsUnchanged}
+use Rattle.std.specs.BTreeMap.{BTreeMap, get, Updates}
 use mathlib.Core.Option.{some}
 use lib.ListN.{get_elem?}
 use Rattle.serial_arena.specs.Serial.{SerialState}
-use Rattle.arena_list.specs.declared.entry.Entry.{Entry}
-use Rattle.arena_list.specs.Rule.Founded.{Differ, slot}
-use Rattle.arena_list.proofs.Words.Lists.{at_end, at_below, at_one}
+use Rattle.arena_list.proofs.Words.Lists.{at_end, at_below}
 use Rattle.ts_arena.specs.Parts.{no_part, region_at, HasRegion, IsIndexed}
 use Rattle.ts_arena.proofs.Spots.{at_or, or_at, at_set}
 

@@ -1,6 +1,5 @@
 -- Each place of an arena names the one region that it lies in.
-use Rattle.std.proofs.Common.{◌≡◌, ◌≢◌, ◌⊎◌, ℕ, ◌<◌, ◌≤◌, List, sym, refl, ap, subst, ◌∙◌, inl, inr, ⊎_elim, arith, Some}
-use Rattle.std.specs.FinMap as fin
+use Rattle.std.proofs.Common.{◌≡◌, ℕ, List, sym, ap, subst, ◌∙◌, inl, ⊎_elim, arith}
 use Rattle.arena_mem.proofs.Maps.{from_IsSome}
 use mathlib.Core.Option.{some, some-injective}
 use mathlib.Core.Logic.{dite}

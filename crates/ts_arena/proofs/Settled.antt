@@ -1,29 +1,26 @@
 -- What closing the list of a shared arena makes of the arena.
-use Rattle.std.proofs.Common.{◌≡◌, ◌≢◌, ℕ, suc, ◌+◌, ◌<◌, ◌≤◌, ◌⊎◌, Bool, true, false, List, [], ◌∷◌, ◌++◌, map, length, sym, refl, ap, subst, ◌∙◌, ⊎_elim, inl, inr, arith, Option, Some, None}
+use Rattle.std.proofs.Common.{◌≡◌, ℕ, suc, ◌+◌, ◌≤◌, List, [], ◌∷◌, ◌++◌, map, length, sym, refl, ap, subst, ◌∙◌, ⊎_elim, inl, inr, arith}
 use Rattle.std.specs.Prelude.{sum_by}
 use Rattle.std.proofs.lemmas.List.{map-append}
 use Rattle.std.proofs.lemmas.List.Sums.{sum_by-cons}
-use mathlib.Core.Option.{some, some-injective, some-ne-none}
+use mathlib.Core.Option.{some}
 use lib.ListN.{get_elem?}
-use Rattle.arena_block.specs.declared.policy.Policy.{Policy}
 use Rattle.serial_arena.specs.Serial.{SerialState, used_of}
 use Rattle.serial_arena.specs.contracts.arena.SerialArena.{the_row}
 use Rattle.arena_list.specs.declared.entry.Entry.{Entry}
-use Rattle.arena_list.specs.declared.list.ArenaList.{ArenaList}
 use Rattle.arena_list.specs.declared.list.ListSeat.{ListSeat}
-use Rattle.arena_list.specs.Words.Nodes.{Begins}
-use Rattle.arena_list.specs.Rule.Founded.{Differ, slot, caller, node_of}
-use Rattle.arena_list.specs.Rule.Views.{hand, who, mine, shown}
-use Rattle.arena_list.specs.Calls.Seats.{view, IsSeatOf, IsAmong, HasValue, wards_of, founding_of, callers_of}
-use Rattle.arena_list.specs.Closing.Closed.{entry, used_sum, AreAll, Rested, AreApart, AreLinked, IsJoined}
-use Rattle.arena_list.proofs.Words.Lists.{at_more, at_there, at_below}
+use Rattle.arena_list.specs.Rule.Founded.{Differ, slot, caller}
+use Rattle.arena_list.specs.Rule.Views.{shown}
+use Rattle.arena_list.specs.Calls.Seats.{view, IsSeatOf, IsAmong, founding_of}
+use Rattle.arena_list.specs.Closing.Closed.{used_sum, AreAll, Rested, AreApart, AreLinked, IsJoined}
+use Rattle.arena_list.proofs.Words.Lists.{at_more}
 use Rattle.arena_list.proofs.Words.Few.{at_map, at_mapped, len_map}
 use Rattle.arena_list.proofs.Calls.SeatFacts.{mine_tells}
 use Rattle.arena_list.proofs.Marks.Badges.{one_value}
 use Rattle.ts_arena.specs.declared.pass.Pass.{Pass}
-use Rattle.ts_arena.specs.Arena.{ArenaState, IsArena, IsOwned, AreHeld, AreOwners, used_at}
+use Rattle.ts_arena.specs.Arena.{ArenaState, IsArena, IsOwned, used_at}
 use Rattle.ts_arena.specs.Sharing.{Owners}
-use Rattle.ts_arena.specs.Passes.{SharedState, serial_meter, pass_of, caller_of, slot_of, HasPart, IsPassOf, IsShared, SeatHas, made_by, resting, adopted_used}
+use Rattle.ts_arena.specs.Passes.{SharedState, serial_meter, pass_of, IsPassOf, IsShared, SeatHas, made_by, resting}
 use Rattle.ts_arena.specs.Settling.{AreOwn, AreOfLife, IsSettledFrom}
 use Rattle.ts_arena.proofs.Passes.{seat_of}
 

@@ -1,20 +1,18 @@
 -- Slots and serial arenas for callers that own nothing yet.
-use Rattle.std.proofs.Common.{◌≡◌, ◌≢◌, ℕ, zero, suc, ◌+◌, ◌^◌, ◌<◌, ◌≤◌, ◌⊎◌, Bool, true, false, not, cond, List, [], ◌∷◌, ◌++◌, map, length, take, get_or, sym, refl, ap, subst, ◌∙◌, ⊎_elim, arith}
+use Rattle.std.proofs.Common.{◌≡◌, ℕ, zero, suc, ◌+◌, ◌<◌, ◌≤◌, Bool, true, false, not, cond, List, [], ◌∷◌, ◌++◌, map, length, take, get_or, sym, refl, ap, subst, ◌∙◌, ⊎_elim, arith}
 use Rattle.std.specs.Prelude.{filter}
 use Rattle.std.proofs.lemmas.List.{map-append, length-append, take-append-le}
 use Rattle.std.proofs.lemmas.List.Elements.{filter_more}
-use mathlib.Core.Option.{some, some-injective, some-ne-none}
-use lib.ListN.{get_elem?}
+use mathlib.Core.Option.{some-ne-none}
 use Rattle.arena_block.specs.declared.policy.Policy.{Policy}
 use Rattle.arena_block.specs.Policy.{IsValid}
 use Rattle.serial_arena.specs.Serial.{SerialState, IsSerial}
 use Rattle.arena_list.specs.declared.entry.Entry.{Entry}
 use Rattle.arena_list.specs.Words.Core.{slot_count}
-use Rattle.arena_list.specs.Rule.Founded.{AreFit, Differ, Fits, has, slot, caller, without}
-use Rattle.arena_list.proofs.Words.Lists.{at_below, at_end, at_more}
-use Rattle.arena_list.proofs.Words.Few.{at_map, at_mapped, len_map, few}
-use Rattle.arena_list.proofs.Steps.Seats.{at_append}
-use Rattle.arena_list.proofs.Rule.Opening.{has_at, at_has}
+use Rattle.arena_list.specs.Rule.Founded.{AreFit, Differ, has, slot, caller, without}
+use Rattle.arena_list.proofs.Words.Lists.{at_below, at_end}
+use Rattle.arena_list.proofs.Words.Few.{at_mapped, len_map, few}
+use Rattle.arena_list.proofs.Rule.Opening.{at_has}
 use Rattle.ts_arena.specs.Arena.{IsOwned, AreHeld, AreOwners}
 use Rattle.ts_arena.specs.Sharing.{Owners, empty_part, slots_with, asked_of, IsLeastFree, AreSpares, AddsSpare, CanShare}
 use Rattle.ts_arena.specs.Passes.{serial_meter}

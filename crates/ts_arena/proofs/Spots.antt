@@ -3,25 +3,22 @@ use Rattle.std.proofs.Common.{◌≡◌, ◌≢◌, ◌⊎◌, ℕ, zero, suc, �
 use Rattle.std.specs.Prelude.{OnOk, OnErr}
 use Rattle.std.proofs.lemmas.List.{get_or-set_same, get_or-set_other}
 use mathlib.Core.Option.{some, some-injective, some-ne-none}
-use mathlib.Core.Logic.{dite}
-use native.Mathlib.Decide.{ℕ_discrete}
 use lib.ListN.{get_elem?}
 use Rattle.arena_block.specs.declared.policy.Policy.{Policy}
 use Rattle.serial_arena.specs.declared.arena.SerialKey.{SerialKey}
 use Rattle.serial_arena.specs.Key.{key_of}
-use Rattle.serial_arena.specs.Serial.{SerialState, Placement, IsSerial, with_bytes}
+use Rattle.serial_arena.specs.Serial.{SerialState, Placement, IsSerial}
 use Rattle.arena_list.specs.declared.entry.Entry.{Entry}
 use Rattle.arena_list.specs.Rule.Founded.{Differ, slot, caller}
 use Rattle.arena_list.proofs.Words.Few.{at_map, at_mapped, len_map}
-use Rattle.arena_list.proofs.Words.Lists.{at_one, at_below, at_replaced}
+use Rattle.arena_list.proofs.Words.Lists.{at_below}
 use Rattle.ts_arena.specs.declared.spot.Spot.{Spot}
 use Rattle.ts_arena.specs.declared.spot.Spot.TheVariants.{Owner, Adopted}
-use Rattle.ts_arena.specs.Arena.{ArenaState, IsArena, IsKeyed, IsOwned, IsAdopted, AreOwners, AreHeld, AreAdopted, region}
+use Rattle.ts_arena.specs.Arena.{ArenaState, IsArena, IsOwned, IsAdopted, AreOwners, AreAdopted, region}
 use Rattle.ts_arena.specs.Sharing.{Owners}
 use Rattle.ts_arena.specs.Places.{IsPartOf}
 use Rattle.ts_arena.specs.Parts.{no_part, no_owner, owner_at, region_at, owner_with, IsSpot, CanStand, HasRegion, IsSlotTable, part_at, with_part}
-use Rattle.ts_arena.specs.Sole.{parts_of, unwritten, emptied, unwritten_owner, frame_of}
-use Rattle.ts_arena.proofs.Finding.{at_index}
+use Rattle.ts_arena.specs.Sole.{parts_of}
 use Rattle.ts_arena.proofs.Regions.{one_part_of}
 
 module _ {A : Type 0} where

@@ -1,5 +1,5 @@
 -- Maps of several parts as one map: a lookup goes to the part that the key names.
-use Rattle.std.proofs.Common.{◌≡◌, ◌≢◌, ℕ, zero, suc, ◌<◌, Bool, true, false, cond, List, [], ◌∷◌, ◌++◌, length, map, set, Option, Some, None, Ordering, refl, sym, ap, subst, ◌∙◌, arith}
+use Rattle.std.proofs.Common.{◌≡◌, ◌≢◌, ℕ, zero, suc, Bool, true, false, cond, List, [], ◌∷◌, ◌++◌, map, set, Option, Some, None, Ordering, refl, sym, ap, subst, ◌∙◌, arith}
 use Rattle.std.specs.Prelude.{flat_map}
 use Rattle.std.specs.Ordering.{eq_by_cmp}
 use Rattle.std.specs.Cmp.{IsTotalOrder}
@@ -11,7 +11,7 @@ use lib.ListN.{get_elem?}
 use Rattle.arena_mem.proofs.Entries.{get_beside}
 use Rattle.serial_arena.specs.Serial.{SerialState}
 use Rattle.arena_list.specs.Rule.Founded.{Differ}
-use Rattle.arena_list.proofs.Words.Few.{at_map, at_mapped}
+use Rattle.arena_list.proofs.Words.Few.{at_map}
 use Rattle.arena_list.proofs.Words.Lists.{at_replaced}
 use Rattle.ts_arena.specs.Arena.{region}
 

@@ -1,5 +1,5 @@
 -- An arena as one memory.
-use Rattle.std.proofs.Common.{◌≡◌, ◌≢◌, ◌⊎◌, ℕ, zero, suc, ◌+◌, ◌-◌, ◌^◌, ◌<◌, ◌≤◌, Bool, true, false, cond, List, [], ◌∷◌, ◌++◌, length, map, get_or, set, Option, Some, None, refl, sym, ap, subst, ◌∙◌, inl, inr, ⊎_elim, arith}
+use Rattle.std.proofs.Common.{◌≡◌, ◌≢◌, ℕ, zero, suc, ◌+◌, ◌<◌, Bool, cond, List, [], ◌∷◌, ◌++◌, length, map, get_or, set, Some, None, refl, sym, ap, subst, ◌∙◌, inl, inr, ⊎_elim, arith}
 use Rattle.std.specs.Prelude.{IsSome, replicate, flat_map, sum_by, ◌==◌}
 use Rattle.std.specs.Option.{option_map}
 use Rattle.std.specs.FinMap as fin
@@ -12,9 +12,9 @@ use Rattle.arena_mem.specs.declared.place.Place.{Place}
 use Rattle.arena_mem.specs.declared.place.Buffer.{Buffer}
 use Rattle.arena_mem.specs.declared.memory.MemFault.{MemFault}
 use Rattle.arena_mem.specs.declared.memory.MemFault.TheVariants.{NoMemory, BlocksSpent}
-use Rattle.arena_mem.specs.Places.{Places, Buffers, IsPlaceable, IsLive, IsKept, KeepsRest, KeepsBuffers, AddsAtMostABlock, NamesFullRegion, round8, splice, written, replaced, place_cmp, buffer_cmp}
+use Rattle.arena_mem.specs.Places.{Places, IsPlaceable, IsLive, IsKept, AddsAtMostABlock, NamesFullRegion, round8, splice, written, replaced, place_cmp, buffer_cmp}
 use Rattle.arena_mem.proofs.Maps.{places_total, exact_places, buffers_total, exact_buffers, from_IsSome}
-use Rattle.arena_mem.proofs.Entries.{get_inserted, get_beside, stays_there, keeps_rest, stands, no_entries}
+use Rattle.arena_mem.proofs.Entries.{get_inserted, get_beside, stays_there, stands, no_entries}
 use Rattle.serial_arena.specs.Serial.{SerialState, Placement, IsSerial, places_of, buffers_of, blocks_of, place_in, next_placement, numbered, with_place, with_bytes, with_kept}
 use Rattle.serial_arena.proofs.Names.{live_at, with_bytes_inserts, with_place_inserts, next_is_new, next_buffer, next_buffer_is_new, with_kept_inserts, one_block_more}
 use Rattle.arena_list.specs.declared.entry.Entry.{Entry}
@@ -22,14 +22,14 @@ use Rattle.arena_list.specs.Rule.Founded.{Differ, has, caller}
 use Rattle.ts_arena.specs.declared.spot.Spot.{Spot}
 use Rattle.ts_arena.specs.declared.spot.Spot.TheVariants.{Owner, Adopted}
 use Rattle.ts_arena.specs.Arena.{ArenaState, IsArena, region}
-use Rattle.ts_arena.specs.Sharing.{Owners, empty_part}
+use Rattle.ts_arena.specs.Sharing.{Owners}
 use Rattle.ts_arena.specs.Places.{IsPartOf}
-use Rattle.ts_arena.specs.Parts.{no_part, no_owner, owner_at, owner_with, IsSpot, IsSlotTable, part_at, with_part}
+use Rattle.ts_arena.specs.Parts.{no_part, no_owner, owner_at, IsSpot, IsSlotTable, part_at, with_part}
 use Rattle.ts_arena.specs.Sole.{parts_of, all_places, all_buffers, all_blocks, arena_places, arena_buffers, arena_blocks, IsEntered}
 use Rattle.arena_list.proofs.Words.Few.{at_map}
 use Rattle.arena_list.proofs.Words.Lists.{at_below}
 use Rattle.ts_arena.proofs.Regions.{serial_of}
-use Rattle.ts_arena.proofs.Spots.{at_or, or_at, at_set, index_of, at_spot, parts_with, part_there, part_at_spot, regions_differ, one_at}
+use Rattle.ts_arena.proofs.Spots.{at_or, or_at, at_set, index_of, at_spot, parts_with, part_there, part_at_spot, regions_differ}
 use Rattle.ts_arena.proofs.Union.{get_in, found_at, joined_insert, joined_same}
 
 -- ---- names

@@ -1,5 +1,5 @@
 -- The end of an arena's life: what a watch is told, and the record of it.
-use Rattle.std.specs.Prelude.{◌≡◌, ℕ, ◌+◌, ◌≤◌, List, [], ◌∷◌, ◌++◌, length, flat_map}
+use Rattle.std.specs.Prelude.{ℕ, List, [], ◌++◌, length, flat_map}
 use Rattle.serial_arena.specs.Serial.{SerialState}
 use Rattle.arena_list.specs.declared.entry.Entry.{Entry}
 use Rattle.cleanup_list.specs.Told.{Triple, block}

@@ -1,5 +1,5 @@
 -- A shared arena and its passes, as their callers see them.
-use Rattle.std.specs.Prelude.{◌≡◌, ℕ, ◌^◌, ◌<◌, ◌≤◌, List, Option, Some, None, length, map, sum_by}
+use Rattle.std.specs.Prelude.{◌≡◌, ℕ, ◌^◌, ◌<◌, ◌≤◌, List, Option, Some, None, length, sum_by}
 use mathlib.Core.Option.{some}
 use lib.ListN.{get_elem?}
 use Rattle.arena_block.specs.declared.policy.Policy.{Policy}
@@ -10,7 +10,6 @@ use Rattle.life_ids.specs.Cache.{CacheState}
 use Rattle.arena_list.specs.declared.entry.Entry.{Entry}
 use Rattle.arena_list.specs.declared.list.ArenaList.{ArenaList}
 use Rattle.arena_list.specs.declared.list.ListSeat.{ListSeat}
-use Rattle.arena_list.specs.Words.Core.{slot_count}
 use Rattle.arena_list.specs.Rule.Founded.{Meter, others_of}
 use Rattle.arena_list.specs.Rule.Views.{hand, who, mine, shown}
 use Rattle.arena_list.specs.Calls.Seats.{view, life_of, founding_of, callers_of, wards_of, IsSeatOf, IsAmong, HasValue}

@@ -1,5 +1,5 @@
 -- How an arena is shared: who gets which slot, and when it is refused.
-use Rattle.std.specs.Prelude.{◌≡◌, ◌≢◌, ℕ, ◌+◌, ◌<◌, ◌≤◌, true, false, List, [], ◌∷◌, ◌++◌, length, map, take}
+use Rattle.std.specs.Prelude.{◌≡◌, ℕ, ◌+◌, ◌<◌, ◌≤◌, true, false, List, [], ◌∷◌, ◌++◌, length, map, take}
 use mathlib.Core.Option.{some}
 use lib.ListN.{get_elem?}
 use Rattle.arena_block.specs.declared.policy.Policy.{Policy}
@@ -9,7 +9,6 @@ use Rattle.arena_list.specs.Words.Core.{slot_count}
 use Rattle.arena_list.specs.Rule.Founded.{Differ, has, slot, caller, without}
 use Rattle.ts_arena.specs.declared.faults.ShareFault.{ShareFault}
 use Rattle.ts_arena.specs.declared.faults.ShareFault.TheVariants.{SameCaller, TooManyCallers, NoMemory}
-use Rattle.ts_arena.specs.Arena.{ArenaState}
 
 abbrev pub Owners : Type 0
 Owners = List (Entry SerialState)

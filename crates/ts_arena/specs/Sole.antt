@@ -1,5 +1,5 @@
 -- An arena as one memory, and how a caller enters it alone.
-use Rattle.std.specs.Prelude.{◌≡◌, ◌≢◌, ℕ, ◌+◌, ◌<◌, true, false, List, [], ◌++◌, length, map, set, sum_by, flat_map}
+use Rattle.std.specs.Prelude.{◌≡◌, ◌≢◌, ℕ, ◌<◌, true, false, List, [], ◌++◌, length, map, set, sum_by, flat_map}
 use Rattle.std.specs.FinMap as fin
 use mathlib.Core.Option.{some}
 use lib.ListN.{get_elem?}

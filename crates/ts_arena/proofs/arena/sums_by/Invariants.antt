@@ -1,4 +1,4 @@
-use Rattle.std.proofs.Common.{◌≡◌, ◌*◌, ◌^◌, take, sum_by}
+use Rattle.std.proofs.Common.{◌≡◌, take, sum_by}
 use Rattle.ts_arena.specs.Arena.{used_at, allocated_at, registered_at}
 use Rattle.ts_arena.specs.Sums.{AreSmall}
 use Rattle.ts_arena.proofs.arena.sums_by.Given as goal

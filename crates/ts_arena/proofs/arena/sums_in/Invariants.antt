@@ -1,4 +1,4 @@
-use Rattle.std.proofs.Common.{◌≡◌, ◌*◌, ◌^◌, take, sum_by}
+use Rattle.std.proofs.Common.{◌≡◌, take, sum_by}
 use Rattle.ts_arena.specs.Arena.{registered_of}
 use Rattle.serial_arena.specs.Serial.{used_of, allocated_of}
 use Rattle.ts_arena.specs.Sums.{AreSmall}

@@ -1,4 +1,4 @@
-use Rattle.std.proofs.Common.{◌≡◌, ℕ, ◌+◌, ◌^◌, ◌<◌, ap, subst, ◌∙◌}
+use Rattle.std.proofs.Common.{◌+◌, ◌^◌, ◌<◌, ap, subst, ◌∙◌}
 use Rattle.std.specs.Prelude.{IsSome}
 use Rattle.cleanup_list.specs.Told.{Gains, HasRoom}
 use Rattle.serial_arena.specs.Serial.{SerialState, used_of}

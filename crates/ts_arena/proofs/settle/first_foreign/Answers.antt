@@ -1,6 +1,4 @@
-use Rattle.std.proofs.Common.{◌≡◌, ◌≢◌, ℕ, ◌+◌, ◌<◌, ◌≤◌, List, [], ◌∷◌, ◌++◌, map, length, take, sym, refl, ap, subst, ◌∙◌, arith}
-use mathlib.Core.Option.{some}
-use lib.ListN.{get_elem?}
+use Rattle.std.proofs.Common.{◌≡◌, refl, arith}
 use Rattle.arena_list.proofs.Calls.Searches.{and_here, and_all}
 use Rattle.ts_arena.proofs.Finding.{at_index}
 use Rattle.ts_arena.proofs.settle.first_foreign.Goals as goal

@@ -1,4 +1,4 @@
-use Rattle.std.proofs.Common.{◌≡◌, ◌≤◌, ◌++◌, ◌+◌, length, map, reverse, vec_capacity}
+use Rattle.std.proofs.Common.{◌≤◌, length, vec_capacity}
 use Rattle.ts_arena.proofs.Passes.{AreTaken}
 use Rattle.ts_arena.proofs.settle.take_seats.Given as goal
 

@@ -1,6 +1,4 @@
-use Rattle.std.proofs.Common.{◌≡◌, ◌≢◌, ℕ, ◌+◌, ◌<◌, ◌≤◌, List, [], ◌∷◌, ◌++◌, map, length, take, get_or, true, false, not, sym, refl, ap, subst, ◌∙◌, ⊎_elim, arith}
-use mathlib.Core.Option.{some}
-use lib.ListN.{get_elem?}
+use Rattle.std.proofs.Common.{sym, ◌∙◌, arith}
 use Rattle.ts_arena.proofs.Sharing.{asked_then, asked_else}
 use Rattle.ts_arena.proofs.share.count_asked.Goals as goal
 use Rattle.ts_arena.proofs.share.count_asked.Goals.{then-not-is_owner, else-not-is_owner}

@@ -1,10 +1,6 @@
-use Rattle.std.proofs.Common.{◌≡◌, ◌≢◌, ℕ, ◌+◌, ◌<◌, ◌≤◌, List, [], ◌∷◌, ◌++◌, map, length, take, get_or, true, false, not, sym, refl, ap, subst, ◌∙◌, ⊎_elim, arith}
-use mathlib.Core.Option.{some}
-use lib.ListN.{get_elem?}
-use Rattle.std.proofs.lemmas.List.{length-take}
+use Rattle.std.proofs.Common.{take, sym, subst, arith}
 use Rattle.arena_list.specs.Rule.Founded.{Differ}
 use Rattle.arena_list.proofs.Making.Dealing.{at_zero}
-use Rattle.arena_list.proofs.Words.Lists.{at_below}
 use Rattle.ts_arena.proofs.Finding.{at_take, take_more, take_all, differ_more}
 use Rattle.ts_arena.proofs.share.first_repeat.Goals as goal
 

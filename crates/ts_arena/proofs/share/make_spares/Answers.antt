@@ -1,8 +1,5 @@
-use Rattle.std.proofs.Common.{◌≡◌, ◌≢◌, ℕ, ◌+◌, ◌<◌, ◌≤◌, List, [], ◌∷◌, ◌++◌, map, length, take, get_or, true, false, not, sym, refl, ap, subst, ◌∙◌, ⊎_elim, arith}
-use mathlib.Core.Option.{some}
-use lib.ListN.{get_elem?}
+use Rattle.std.proofs.Common.{ℕ, ◌+◌, List, [], ◌++◌, map, length, take, get_or, sym, ap, subst, ⊎_elim, arith}
 use Rattle.std.proofs.lemmas.Bool.{cases_Bool}
-use Rattle.serial_arena.specs.Serial.{SerialState}
 use Rattle.arena_list.specs.Rule.Founded.{has, caller}
 use Rattle.arena_list.proofs.Words.Few.{len_map}
 use Rattle.ts_arena.specs.Arena.{AreHeld}

@@ -1,4 +1,4 @@
-use Rattle.std.proofs.Common.{◌≡◌, ◌≤◌, ◌++◌, ◌+◌, take, length, vec_capacity}
+use Rattle.std.proofs.Common.{◌≤◌, ◌++◌, take, vec_capacity}
 use Rattle.arena_list.specs.Words.Core.{slot_count}
 use Rattle.ts_arena.specs.Arena.{AreHeld}
 use Rattle.ts_arena.specs.Sharing.{AreSpares}

@@ -1,6 +1,5 @@
-use Rattle.std.proofs.Common.{◌≡◌, ◌≢◌, ℕ, ◌+◌, ◌<◌, ◌≤◌, List, [], ◌∷◌, ◌++◌, map, length, take, get_or, true, false, not, sym, refl, ap, subst, ◌∙◌, ⊎_elim, arith}
+use Rattle.std.proofs.Common.{◌≢◌, ℕ, refl, ap, ◌∙◌, arith}
 use mathlib.Core.Option.{some}
-use lib.ListN.{get_elem?}
 use Rattle.arena_list.proofs.Making.Dealing.{at_zero}
 use Rattle.arena_list.proofs.Calls.Searches.{and_all}
 use Rattle.ts_arena.proofs.Finding.{and_next}

@@ -1,4 +1,4 @@
-use Rattle.std.proofs.Common.{◌≢◌, ◌≤◌, length, arith}
+use Rattle.std.proofs.Common.{◌≢◌}
 use Rattle.serial_arena.specs.Serial.{SerialState}
 use Rattle.arena_list.specs.declared.entry.Entry.{Entry}
 use Rattle.arena_list.proofs.Calls.Searches.{and_here, and_all}

@@ -1,4 +1,4 @@
-use Rattle.std.proofs.Common.{◌≡◌, ◌≤◌, length, ◌∙◌, arith}
+use Rattle.std.proofs.Common.{◌∙◌, arith}
 use Rattle.arena_list.proofs.Words.Lists.{at_below}
 use Rattle.ts_arena.proofs.Finding.{at_index}
 use Rattle.ts_arena.proofs.Spots.{len_set}

@@ -1,4 +1,4 @@
-use Rattle.std.proofs.Common.{ℕ, ◌≡◌, ◌≢◌, ◌<◌, length, get_or}
+use Rattle.std.proofs.Common.{ℕ, ◌≡◌, ◌<◌, length, get_or}
 use mathlib.Core.Option.{some}
 use lib.ListN.{get_elem?}
 use Rattle.serial_arena.specs.Serial.{SerialState}

@@ -1,4 +1,4 @@
-use Rattle.std.proofs.Common.{◌≡◌, ◌<◌, List, length, sym, subst, refl}
+use Rattle.std.proofs.Common.{◌≡◌, ◌<◌, List, length, sym, subst}
 use Rattle.serial_arena.specs.Serial.{SerialState}
 use Rattle.ts_arena.specs.Parts.{IsIndexed, region_at}
 use Rattle.ts_arena.proofs.Indexed.{index_kept}

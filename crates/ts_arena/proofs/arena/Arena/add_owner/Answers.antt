@@ -1,4 +1,4 @@
-use Rattle.std.proofs.Common.{◌≡◌, ◌≤◌, ℕ, [], length, sym, subst, refl, ap, ◌∙◌, arith}
+use Rattle.std.proofs.Common.{◌≡◌, [], length, sym, subst, refl, ap, arith}
 use Rattle.ts_arena.specs.Arena.{ArenaState}
 use Rattle.ts_arena.specs.Sharing.{Owners, AddsSpare}
 use Rattle.ts_arena.specs.Sole.{OwnsNothing}

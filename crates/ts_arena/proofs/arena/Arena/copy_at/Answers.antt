@@ -1,5 +1,4 @@
-use Rattle.std.proofs.Common.{◌<◌, length, sym, subst, refl}
-use Rattle.ts_arena.specs.declared.spot.Spot.{Spot}
+use Rattle.std.proofs.Common.{sym, subst, refl}
 use Rattle.ts_arena.specs.Arena.{ArenaState}
 use Rattle.ts_arena.specs.Parts.{IsSpot}
 use Rattle.ts_arena.proofs.Spots.{owners_written, adopted_written}

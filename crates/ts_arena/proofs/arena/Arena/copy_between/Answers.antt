@@ -1,7 +1,7 @@
-use Rattle.std.proofs.Common.{◌≡◌, take, sym, subst, refl, ap, ◌∙◌}
+use Rattle.std.proofs.Common.{◌≡◌, take, sym, subst, ap, ◌∙◌}
 use Rattle.arena_mem.specs.Places.{bytes_at}
 use Rattle.serial_arena.specs.Key.{key_of}
-use Rattle.serial_arena.specs.Serial.{SerialState, places_of, with_bytes}
+use Rattle.serial_arena.specs.Serial.{places_of, with_bytes}
 use Rattle.ts_arena.specs.Arena.{ArenaState, IsArena}
 use Rattle.ts_arena.specs.Parts.{CanStand, part_at, with_part}
 use Rattle.ts_arena.proofs.Spots.{part_beside, put_back, with_part_twice}

@@ -1,4 +1,4 @@
-use Rattle.std.proofs.Common.{◌≡◌, ℕ, length, sym, ap, subst, ◌∙◌, arith}
+use Rattle.std.proofs.Common.{◌≡◌, length, sym, ap, subst, ◌∙◌, arith}
 use Rattle.std.specs.Prelude.{IsSome, List, ◌+◌, flat_map, sum_by}
 use Rattle.serial_arena.specs.Serial.{SerialState, used_of}
 use Rattle.cleanup_list.specs.Told.{Gains, HasRoom}

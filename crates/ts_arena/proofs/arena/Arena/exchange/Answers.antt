@@ -1,4 +1,4 @@
-use Rattle.std.proofs.Common.{◌<◌, length, sym, subst, refl}
+use Rattle.std.proofs.Common.{sym, subst}
 use Rattle.ts_arena.specs.declared.spot.Spot.{Spot}
 use Rattle.ts_arena.specs.Arena.{ArenaState, AreOwners, AreAdopted}
 use Rattle.ts_arena.specs.Parts.{IsSpot, CanStand}

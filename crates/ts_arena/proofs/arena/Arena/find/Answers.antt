@@ -1,5 +1,4 @@
-use Rattle.std.proofs.Common.{◌≡◌, ℕ, ◌<◌, ◌≤◌, length, get_or, sym, subst, arith}
-use Rattle.serial_arena.specs.Serial.{SerialState}
+use Rattle.std.proofs.Common.{◌≡◌, ℕ, ◌<◌, length, get_or, sym, subst, arith}
 use Rattle.ts_arena.specs.declared.spot.Spot.TheVariants.{Owner}
 use Rattle.ts_arena.specs.Arena.{ArenaState, IsArena}
 use Rattle.ts_arena.specs.Parts.{HasRegion, part_at}

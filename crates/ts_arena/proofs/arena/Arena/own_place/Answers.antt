@@ -1,4 +1,4 @@
-use Rattle.std.proofs.Common.{◌≡◌, ◌<◌, ℕ, length, subst, sym, ap, ◌∙◌}
+use Rattle.std.proofs.Common.{◌≡◌, ◌<◌, ℕ, length, subst, ap, ◌∙◌}
 use Rattle.ts_arena.specs.Arena.{ArenaState}
 use Rattle.ts_arena.specs.Sharing.{Owners}
 use Rattle.ts_arena.specs.Parts.{owner_at}

@@ -1,6 +1,4 @@
-use Rattle.std.proofs.Common.{◌≡◌, ◌≢◌, ℕ, ◌+◌, ◌<◌, ◌≤◌, List, [], ◌∷◌, ◌++◌, map, length, take, get_or, true, false, not, sym, refl, ap, subst, ◌∙◌, ⊎_elim, arith}
-use mathlib.Core.Option.{some}
-use lib.ListN.{get_elem?}
+use Rattle.std.proofs.Common.{arith}
 use Rattle.ts_arena.proofs.Sharing.{few_owners}
 use Rattle.ts_arena.proofs.arena.Arena.owners.Goals as goal
 

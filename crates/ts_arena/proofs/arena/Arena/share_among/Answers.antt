@@ -1,9 +1,9 @@
-use Rattle.std.proofs.Common.{◌≡◌, ℕ, ◌++◌, List, sym, subst, ◌∙◌, ap, refl, arith}
+use Rattle.std.proofs.Common.{◌++◌, List, sym, subst, ◌∙◌, ap, refl, arith}
 use Rattle.std.specs.Prelude.{sum_by}
 use Rattle.serial_arena.specs.Serial.{SerialState, used_of}
 use Rattle.ts_arena.specs.Arena.{ArenaState, AreHeld}
 use Rattle.ts_arena.specs.Sharing.{Owners, AreSpares, CanShare}
-use Rattle.ts_arena.specs.Passes.{SharedState, AreFirstPasses}
+use Rattle.ts_arena.specs.Passes.{AreFirstPasses}
 use Rattle.ts_arena.proofs.Sharing.{fit}
 use Rattle.ts_arena.proofs.FirstPasses.{shared_is, first_passes}
 use Rattle.ts_arena.proofs.arena.Arena.share_among.Goals as goal

@@ -1,5 +1,4 @@
-use Rattle.std.proofs.Common.{◌≡◌, ℕ, ◌<◌, length, sym, subst, refl, ap, ◌∙◌, arith}
-use mathlib.Core.Option.{some}
+use Rattle.std.proofs.Common.{◌≡◌, sym, subst, ap, ◌∙◌, arith}
 use Rattle.serial_arena.specs.Serial.{SerialState, IsSerial}
 use Rattle.ts_arena.specs.declared.spot.Spot.{Spot}
 use Rattle.ts_arena.specs.declared.spot.Spot.TheVariants.{Owner, Adopted}

@@ -1,4 +1,4 @@
-use Rattle.std.proofs.Common.{sym, arith}
+use Rattle.std.proofs.Common.{arith}
 use Rattle.serial_arena.proofs.Names.{used_is}
 use Rattle.ts_arena.proofs.shared.Shared.enter.Goals as goal
 

@@ -1,4 +1,4 @@
-use Rattle.std.proofs.Common.{◌≡◌, ℕ, ◌++◌, ◌≤◌, List, map, length, sym, subst, ◌∙◌, ap, refl}
+use Rattle.std.proofs.Common.{◌≡◌, ℕ, ◌++◌, ◌≤◌, List, map, length, sym, subst, ◌∙◌, ap}
 use mathlib.Core.Option.{some}
 use lib.ListN.{get_elem?}
 use Rattle.arena_list.specs.declared.list.ListSeat.{ListSeat}
@@ -6,7 +6,6 @@ use Rattle.arena_list.specs.Calls.Seats.{wards_of, founding_of, view}
 use Rattle.arena_list.specs.Rule.Views.{shown}
 use Rattle.arena_list.specs.Closing.Closed.{used_sum, AreAll, AreApart, AreLinked}
 use Rattle.serial_arena.specs.contracts.arena.SerialArena.{the_row}
-use Rattle.ts_arena.specs.Arena.{ArenaState}
 use Rattle.ts_arena.specs.Passes.{SharedState, serial_meter, made_by, pass_of}
 use Rattle.ts_arena.specs.Settling.{AreOwn, AreOfLife, IsSettledFrom}
 use Rattle.arena_list.proofs.Words.Few.{len_map}

@@ -1,6 +1,6 @@
-use Rattle.std.proofs.Common.{◌≡◌, ℕ, ◌+◌, ◌≤◌, ◌⊎◌, Bool, true, false, Option, Some, None, sym, subst, ◌∙◌, ap, refl, inl, inr, ⊎_elim, arith}
+use Rattle.std.proofs.Common.{◌≡◌, ℕ, ◌⊎◌, Bool, true, false, Some, None, ◌∙◌, ap, refl, inl, inr, ⊎_elim, arith}
 use Rattle.std.specs.Prelude.{List}
-use Rattle.serial_arena.specs.Serial.{SerialState, used_of}
+use Rattle.serial_arena.specs.Serial.{used_of}
 use Rattle.arena_list.specs.declared.for_clauses.mark.Mark.{Mark}
 use Rattle.arena_list.specs.declared.for_clauses.view.Hand.{Hand}
 use Rattle.arena_list.specs.declared.for_clauses.view.View.{View}

@@ -1,4 +1,4 @@
-use Rattle.std.proofs.Common.{◌≡◌, ℕ, ◌+◌, ◌≤◌, ◌⊎◌, Bool, true, false, Option, Some, None, sym, subst, ◌∙◌, ap, refl, inl, inr, ⊎_elim, arith}
+use Rattle.std.proofs.Common.{ℕ, sym, subst, ap}
 use Rattle.serial_arena.specs.Serial.{SerialState}
 use Rattle.arena_list.specs.declared.for_clauses.mark.Mark.{Mark}
 use Rattle.arena_list.specs.declared.for_clauses.view.View.{View}

@@ -1,4 +1,4 @@
-use Rattle.std.proofs.Common.{◌≡◌, sym, subst, ap, ◌∙◌}
+use Rattle.std.proofs.Common.{sym, subst, ap, ◌∙◌}
 use Rattle.std.specs.FinMap as fin
 use Rattle.arena_mem.specs.Places.{IsLive}
 use Rattle.serial_arena.specs.Serial.{SerialState, places_of}
