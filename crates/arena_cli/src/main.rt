@@ -7,10 +7,14 @@
 mod again;
 mod files;
 #[cfg(test)]
+mod node_rows;
+#[cfg(test)]
 mod rows;
 mod sink;
 #[cfg(test)]
 mod tests;
+#[cfg(test)]
+mod told;
 
 use arena_block::Policy;
 use arena_run::{Fault, run};

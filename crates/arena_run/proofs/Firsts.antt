@@ -17,13 +17,13 @@ use Rattle.arena_run.specs.Ends.{last_stage, first_stage, IsRead, EndsBy, IsOfFi
 use Rattle.arena_run.specs.Faults.{payloads_fault, frames_fault, first_fault, trees_in}
 
 -- a file that isn't too long has the fault of its frames
-pub within_limit : (content : List ℕ) → length content ≤ 2 ^ 24 → first_fault content ≡ frames_fault (frames_of content)
+pub within_limit : (type_no : ℕ) (content : List ℕ) → length content ≤ 2 ^ 24 → first_fault type_no content ≡ frames_fault type_no (frames_of content)
 unfolding first_fault
-within_limit content few = cond-true (leb (length content) (2 ^ 24)) _ _ (le-leb (length content) (2 ^ 24) few)
+within_limit type_no content few = cond-true (leb (length content) (2 ^ 24)) _ _ (le-leb (length content) (2 ^ 24) few)
 
-pub above_limit : (content : List ℕ) → 2 ^ 24 < length content → first_fault content ≡ Some (TooLong FrameBytes (2 ^ 24))
+pub above_limit : (type_no : ℕ) (content : List ℕ) → 2 ^ 24 < length content → first_fault type_no content ≡ Some (TooLong FrameBytes (2 ^ 24))
 unfolding first_fault
-above_limit content many = cond-false (leb (length content) (2 ^ 24)) _ _ (lt-leb (length content) (2 ^ 24) many)
+above_limit type_no content many = cond-false (leb (length content) (2 ^ 24)) _ _ (lt-leb (length content) (2 ^ 24) many)
 
 -- what holds of each fault
 pub each_err : {A : Type 0} (r : Result A Fault) (P Q R : Fault → Type 0) → ((fault : Fault) → P fault → Q fault → R fault) → IfErr r P → IfErr r Q → IfErr r R
@@ -44,23 +44,23 @@ first_is fault first (inl is) read = not_read fault is read
 first_is fault first (inr is) read = is
 
 -- a fault of the frames is the first of the file
-frames_first : (content : List ℕ) (fault : Fault) → length content ≤ 2 ^ 24 → IsOfFile fault → (fault ≡ NoMemory) ⊎ (frames_fault (frames_of content) ≡ Some fault) → EndsBy (first_fault content) (Some fault)
-frames_first content fault few kind found = record {
-  fault = λ read _. within_limit content few ∙ first_is fault (frames_fault (frames_of content)) found read;
+frames_first : (type_no : ℕ) (content : List ℕ) (fault : Fault) → length content ≤ 2 ^ 24 → IsOfFile fault → (fault ≡ NoMemory) ⊎ (frames_fault type_no (frames_of content) ≡ Some fault) → EndsBy (first_fault type_no content) (Some fault)
+frames_first type_no content fault few kind found = record {
+  fault = λ read _. within_limit type_no content few ∙ first_is fault (frames_fault type_no (frames_of content)) found read;
   none = λ parsed. absurd (let before = kind.before in omega (arith, before, parsed));
 }
 
 pub cut_first : (fault : Fault) (found : Option (List ℕ)) (bytes : List ℕ) → IfSome found (λ content. bytes ≡ content) → length bytes ≤ 2 ^ 24 → IsOfFile fault
-    → (fault ≡ NoMemory) ⊎ (frames_fault (frames_of bytes) ≡ Some fault) → IfSome found (λ content. EndsBy (first_fault content) (Some fault))
+    → ((type_no : ℕ) → (fault ≡ NoMemory) ⊎ (frames_fault type_no (frames_of bytes) ≡ Some fault)) → IfSome found (λ content. (type_no : ℕ) → EndsBy (first_fault type_no content) (Some fault))
 cut_first fault None bytes same few kind is = tt
-cut_first fault (Some content) bytes same few kind is = subst (λ s. EndsBy (first_fault s) (Some fault)) same (frames_first bytes fault few kind is)
+cut_first fault (Some content) bytes same few kind is = λ type_no. subst (λ s. EndsBy (first_fault type_no s) (Some fault)) same (frames_first type_no bytes fault few kind (is type_no))
 
 -- a file that was read up to the limit, and one that wasn't
 pub input_first : (fault : Fault) (found : Option (List ℕ)) → IsOfFile fault → (IsRead (Some fault) → (fault ≡ TooLong FrameBytes (2 ^ 24)) × IfSome found (λ content. 2 ^ 24 < length content))
-    → IfSome found (λ content. EndsBy (first_fault content) (Some fault))
+    → IfSome found (λ content. (type_no : ℕ) → EndsBy (first_fault type_no content) (Some fault))
 input_first fault None kind long = tt
-input_first fault (Some content) kind long = record {
-  fault = λ read _. let is = long read in above_limit content is.1 ∙ sym (ap Some is.0);
+input_first fault (Some content) kind long = λ type_no. record {
+  fault = λ read _. let is = long read in above_limit type_no content is.1 ∙ sym (ap Some is.0);
   none = λ parsed. absurd (let before = kind.before in omega (arith, before, parsed));
 }
 
@@ -71,18 +71,18 @@ pub record IsCut (content : List ℕ) (payloads : List (List ℕ)) : Type 0 wher
   pub few_bytes : length content ≤ 2 ^ 24
   pub frames : frames_of content ≡ Ok payloads
 
-pub payloads_first : (content : List ℕ) (payloads : List (List ℕ)) → IsCut content payloads → length payloads ≤ 2 ^ 20 → first_fault content ≡ payloads_fault payloads
-payloads_first content payloads cut few =
-    within_limit content cut.few_bytes ∙ (ap frames_fault cut.frames ∙ cond-true (leb (length payloads) (2 ^ 20)) _ _ (le-leb (length payloads) (2 ^ 20) few))
+pub payloads_first : (type_no : ℕ) (content : List ℕ) (payloads : List (List ℕ)) → IsCut content payloads → length payloads ≤ 2 ^ 20 → first_fault type_no content ≡ payloads_fault type_no payloads
+payloads_first type_no content payloads cut few =
+    within_limit type_no content cut.few_bytes ∙ (ap (frames_fault type_no) cut.frames ∙ cond-true (leb (length payloads) (2 ^ 20)) _ _ (le-leb (length payloads) (2 ^ 20) few))
 
-trees_there : (content : List ℕ) (payloads : List (List ℕ)) → frames_of content ≡ Ok payloads → trees_in content ≡ trees_of builtin 0 payloads
+trees_there : (type_no : ℕ) (content : List ℕ) (payloads : List (List ℕ)) → frames_of content ≡ Ok payloads → trees_in type_no content ≡ trees_of builtin type_no payloads
 unfolding trees_in
-trees_there content payloads e = ap (λ (r : Result (List (List ℕ)) ℕ). elim r as (λ _. Option (List Tree)) [ Ok ps ↦ trees_of builtin 0 ps | Err k ↦ None ]) e
+trees_there type_no content payloads e = ap (λ (r : Result (List (List ℕ)) ℕ). elim r as (λ _. Option (List Tree)) [ Ok ps ↦ trees_of builtin type_no ps | Err k ↦ None ]) e
 
-pub has_trees : (content : List ℕ) (payloads : List (List ℕ)) (P : List Tree → Type 0) → IsCut content payloads → length payloads ≤ 2 ^ 20 → payloads_fault payloads ≡ None → IsSomeAnd (trees_of builtin 0 payloads) P → HasTrees content P
-has_trees content payloads P cut few sound trees = record {
-  sound = payloads_first content payloads cut few ∙ sound;
-  trees = subst (λ o. IsSomeAnd o P) (sym (trees_there content payloads cut.frames)) trees;
+pub has_trees : (type_no : ℕ) (content : List ℕ) (payloads : List (List ℕ)) (P : List Tree → Type 0) → IsCut content payloads → length payloads ≤ 2 ^ 20 → payloads_fault type_no payloads ≡ None → IsSomeAnd (trees_of builtin type_no payloads) P → HasTrees type_no content P
+has_trees type_no content payloads P cut few sound trees = record {
+  sound = payloads_first type_no content payloads cut few ∙ sound;
+  trees = subst (λ o. IsSomeAnd o P) (sym (trees_there type_no content payloads cut.frames)) trees;
 }
 
 -- no stage is the first and lies behind the last
@@ -92,25 +92,16 @@ first_before_last (Some NoMemory) = omega arith
 first_before_last (Some fault) = omega arith
 
 -- a fault of the payloads is the first of the file
-pub payload_first : (content : List ℕ) (payloads : List (List ℕ)) (fault : Fault) → IsCut content payloads → length payloads ≤ 2 ^ 20 → IsOfPayloads fault → (fault ≡ NoMemory) ⊎ (payloads_fault payloads ≡ Some fault) → EndsBy (first_fault content) (Some fault)
-payload_first content payloads fault cut few kind found = record {
-  fault = λ read _. payloads_first content payloads cut few ∙ first_is fault (payloads_fault payloads) found read;
+pub payload_first : (type_no : ℕ) (content : List ℕ) (payloads : List (List ℕ)) (fault : Fault) → IsCut content payloads → length payloads ≤ 2 ^ 20 → IsOfPayloads fault → (fault ≡ NoMemory) ⊎ (payloads_fault type_no payloads ≡ Some fault) → EndsBy (first_fault type_no content) (Some fault)
+payload_first type_no content payloads fault cut few kind found = record {
+  fault = λ read _. payloads_first type_no content payloads cut few ∙ first_is fault (payloads_fault type_no payloads) found read;
   none = λ parsed. absurd (let first = first_before_last (Some fault) in omega (arith, first, kind, parsed));
 }
 
-pub parsed_first : {A : Type 0} (r : Result A Fault) (content : List ℕ) (payloads : List (List ℕ)) → IsCut content payloads → length payloads ≤ 2 ^ 20 → IfErr r IsOfPayloads
-    → IfErr r (λ fault. (fault ≡ NoMemory) ⊎ (payloads_fault payloads ≡ Some fault)) → IfOk r (λ _. payloads_fault payloads ≡ None) → EndsBy (first_fault content) (result_fault r)
-parsed_first (Ok x) content payloads cut few kind is sound = record { fault = λ _ unparsed. absurd (omega (arith, unparsed)); none = λ _. payloads_first content payloads cut few ∙ sound }
-parsed_first (Err fault) content payloads cut few kind is sound = payload_first content payloads fault cut few kind is
-
--- the payloads of whole frames are short
-short_at : (payloads : List (List ℕ)) (s : List ℕ) → Frames s payloads → (k : ℕ) (d : List ℕ) → k < length payloads → length (get_or payloads k d) < 2 ^ 31
-short_at [] s framed k d within = absurd (omega (arith, within))
-short_at (payload ∷ payloads) s framed zero d within = framed.4
-short_at (payload ∷ payloads) s framed (suc k) d within = short_at payloads framed.1 framed.5 k d (omega (arith, within))
-
-pub all_short : (s : List ℕ) (payloads : List (List ℕ)) → frames_of s ≡ Ok payloads → All (λ payload. length payload < 2 ^ 31) payloads
-all_short s payloads e = short_at payloads s (frames_found payloads s e)
+pub parsed_first : {A : Type 0} (type_no : ℕ) (r : Result A Fault) (content : List ℕ) (payloads : List (List ℕ)) → IsCut content payloads → length payloads ≤ 2 ^ 20 → IfErr r IsOfPayloads
+    → IfErr r (λ fault. (fault ≡ NoMemory) ⊎ (payloads_fault type_no payloads ≡ Some fault)) → IfOk r (λ _. payloads_fault type_no payloads ≡ None) → EndsBy (first_fault type_no content) (result_fault r)
+parsed_first type_no (Ok x) content payloads cut few kind is sound = record { fault = λ _ unparsed. absurd (omega (arith, unparsed)); none = λ _. payloads_first type_no content payloads cut few ∙ sound }
+parsed_first type_no (Err fault) content payloads cut few kind is sound = payload_first type_no content payloads fault cut few kind is
 
 -- all bytes are whole frames where they are answered
 kept_ok : (b : Bool) (payloads found : List (List ℕ)) (d : FrameFault) → ◌≡◌ {A = Result (List (List ℕ)) FrameFault} (cond b (Ok payloads) (Err d)) (Ok found) → ◌≡◌ {A = Result (List (List ℕ)) ℕ} (Ok payloads) (Ok found)
@@ -127,7 +118,3 @@ answer_ok (Err cut) found e = kept_err _ found _ _ e
 
 pub answered : (s : List ℕ) (found : List (List ℕ)) → answer_of s ≡ Ok found → frames_of s ≡ Ok found
 answered s found e = answer_ok (frames_of s) found e
-
--- what is found has what all that may be found has
-pub found_has : {A : Type 0} (o : Option A) (x : A) (P : A → Type 0) → o ≡ Some x → IfSome o P → P x
-found_has o x P e h = subst (λ found. IfSome found P) e h

@@ -1,32 +1,37 @@
 -- How a run ends: the status of each fault, and the stage of the run at which it comes.
 use Rattle.std.specs.Prelude.{◌≡◌, ◌⊎◌, ◌<◌, ◌≤◌, ℕ, Option, None, Some, Result, Ok, Err}
 use Rattle.arena_run.specs.declared.fault.Fault.{Fault}
-use Rattle.arena_run.specs.declared.fault.Fault.TheVariants.{NoMemory, Usage, FrameCut, BadFrame, ReadFault, WriteFault, TooLong, NotBuilt}
+use Rattle.arena_run.specs.declared.fault.Fault.TheVariants.{NoMemory, Usage, FrameCut, BadFrame, ReadFault, WriteFault, TooLong, NotBuilt, NoType}
 
--- THE STAGES, in their order: the words are read, then the frames file, its frames and their payloads, and then all is written
+-- THE STAGES, in their order: the words are read, the type is looked up, then comes the frames file, its frames and their payloads, and
+-- then all is written
 
 abbrev pub at_words : ℕ
 at_words = 0
 
+abbrev pub at_types : ℕ
+at_types = 1
+
 abbrev pub at_reading : ℕ
-at_reading = 1
+at_reading = 2
 
 abbrev pub at_framing : ℕ
-at_framing = 2
+at_framing = 3
 
 abbrev pub at_payloads : ℕ
-at_payloads = 3
+at_payloads = 4
 
 abbrev pub at_writing : ℕ
-at_writing = 4
+at_writing = 5
 
 abbrev pub at_end : ℕ
-at_end = 5
+at_end = 6
 
 -- the status of a fault, and the stage at which it comes; want of memory comes up to that stage
 abbrev pub row_of : Fault → ℕ × ℕ
 row_of NoMemory = (1, at_payloads)
 row_of Usage = (2, at_words)
+row_of (NoType name) = (3, at_types)
 row_of (FrameCut index) = (4, at_framing)
 row_of (BadFrame index fault) = (4, at_payloads)
 row_of ReadFault = (6, at_reading)
@@ -45,7 +50,7 @@ last_stage None = at_end
 last_stage (Some fault) = (row_of fault).1
 
 abbrev pub first_stage : Option Fault → ℕ
-first_stage (Some NoMemory) = at_reading
+first_stage (Some NoMemory) = at_types
 first_stage (Some fault) = (row_of fault).1
 first_stage None = at_end
 
@@ -54,6 +59,14 @@ first_stage None = at_end
 -- it ended by its words
 abbrev pub IsOfWords : Option Fault → Type 0
 IsOfWords end = last_stage end ≤ at_words
+
+-- it ended before it picked a file, and not in want of memory
+abbrev pub IsUnread : Option Fault → Type 0
+IsUnread end = last_stage end ≤ at_types
+
+-- it went past the look-up of the type
+abbrev pub IsPastTypes : Option Fault → Type 0
+IsPastTypes end = at_types < first_stage end
 
 -- it went past its words
 abbrev pub IsPastWords : Option Fault → Type 0
@@ -93,7 +106,7 @@ result_fault (Err fault) = Some fault
 
 -- a fault that comes of reading the frames file, before its payloads are looked at
 pub record IsOfFile (fault : Fault) : Type 0 where
-  pub past : at_words < last_stage (Some fault)
+  pub past : at_types < last_stage (Some fault)
   pub before : first_stage (Some fault) < at_payloads
 
 -- a fault that comes of parsing the payloads

@@ -1,8 +1,8 @@
 pub mod Words
 pub mod Faults
 pub mod Contents
-pub mod Payload
 pub mod Stands
-pub mod Placed
+pub mod Made
+pub mod Frames
 pub mod Ends
 pub mod Causes

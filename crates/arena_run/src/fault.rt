@@ -1,6 +1,7 @@
 // The faults of a run, and their statuses.
 ghost use Rattle.std.specs.Prelude.{◌≡◌};
 
+use pb_schema::Name;
 use pb_wire::WireFault;
 
 /// An input that has a limit.
@@ -13,12 +14,14 @@ pub enum InputKind {
 }
 
 /// Why a run didn't end well.
-#[derive(Debug, PartialEq, Eq, Drop)]
+#[derive(Debug, Drop)]
 pub enum Fault {
     /// A growth was refused. Status 1.
     NoMemory,
     /// The words have none of the three forms. Status 2.
     Usage,
+    /// No type has the name that the words have. Status 3.
+    NoType { name: Name },
     /// So many frames of the file are whole, and behind them none can be read. Status 4.
     FrameCut { index: u32 },
     /// The frame of this index is the first whose payload has a fault, and this is its first. Status 4.
@@ -44,6 +47,7 @@ impl Fault {
         match self {
             Fault::NoMemory => 1,
             Fault::Usage => 2,
+            Fault::NoType { .. } => 3,
             Fault::FrameCut { .. } | Fault::BadFrame { .. } => 4,
             Fault::ReadFault => 6,
             Fault::WriteFault => 7,

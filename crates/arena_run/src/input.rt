@@ -1,5 +1,5 @@
 // Reading a whole file through `Files`, and cutting it into frames.
-ghost use Rattle.std.specs.Prelude.{◌≡◌, ◌⊎◌, [], ◌+◌, ◌^◌, ◌<◌, ◌≤◌, List, Some, Ok, All, length, IsTrue, IfOk, IfErr, IfSome, IsErrOf};
+ghost use Rattle.std.specs.Prelude.{◌≡◌, ◌⊎◌, [], ◌+◌, ◌^◌, ◌<◌, ◌≤◌, ℕ, List, Some, Ok, length, sum_by, IsTrue, IfOk, IfErr, IfSome, IsErrOf};
 ghost use Rattle.std.specs.String.{string_bytes};
 ghost use Rattle.arena_mem.specs.Outside.{Rose, content_of};
 ghost use Rattle.pb_schema.specs.Frames.{frames_of};
@@ -38,9 +38,9 @@ pub fn read_frames_file<F: Files>(
     ensures reads { ReadsFile F.contents F.faults F.blamed (string_bytes name) files.old files.new (result_fault result) }
     ensures kind { IfErr result IsOfFile }
     ensures few { IfOk result (λ payloads. length payloads ≤ 2 ^ 20) }
-    ensures short { IfOk result (λ payloads. All (λ payload. length payload < 2 ^ 31) payloads) }
+    ensures fits { IfOk result (λ payloads. sum_by length payloads + length payloads ≤ 2 ^ 24) }
     ensures whole { IfOk result (λ payloads. IfSome (content_of (F.contents files.old) (string_bytes name)) (λ content. (length content ≤ 2 ^ 24) × (frames_of content ≡ Ok payloads))) }
-    ensures first { IfErr result (λ fault. IfSome (content_of (F.contents files.old) (string_bytes name)) (λ content. EndsBy (first_fault content) (Some fault))) }
+    ensures first { IfErr result (λ fault. IfSome (content_of (F.contents files.old) (string_bytes name)) (λ content. (type_no : ℕ) → EndsBy (first_fault type_no content) (Some fault))) }
 {
     let bytes = read_input(alloc, files, name, InputKind::FrameBytes, FRAME_BYTES_LIMIT)?;
     cut_into_frames(alloc, bytes)
@@ -50,9 +50,9 @@ pub fn read_frames_file<F: Files>(
 fn cut_into_frames(alloc: Global, bytes: Vec<u8>) -> Result<Frames, Fault>
     ensures kind { IfErr result (λ fault. IsOfFile fault × (fault ≡ Fault.ReadFault → ⊥)) }
     ensures few { IfOk result (λ payloads. length payloads ≤ 2 ^ 20) }
-    ensures short { IfOk result (λ payloads. All (λ payload. length payload < 2 ^ 31) payloads) }
+    ensures fits { IfOk result (λ payloads. sum_by length payloads + length payloads ≤ length bytes.items) }
     ensures whole { IfOk result (λ payloads. frames_of bytes.items ≡ Ok payloads) }
-    ensures fault { IfErr result (λ fault. (fault ≡ Fault.NoMemory) ⊎ (frames_fault (frames_of bytes.items) ≡ Some fault)) }
+    ensures fault { IfErr result (λ fault. (type_no : ℕ) → (fault ≡ Fault.NoMemory) ⊎ (frames_fault type_no (frames_of bytes.items) ≡ Some fault)) }
 {
     match read_frames(alloc, bytes) {
         Ok(frames) => Ok(frames),

@@ -6,20 +6,15 @@
 #![tactic(auto)]
 
 mod command;
-mod contents;
 mod fault;
 mod input;
 mod parse;
-mod payload;
-mod placed;
 mod program;
-mod slot;
-mod strings;
-mod tick;
-mod wire;
 mod words;
 mod write;
 
+pub use dyn_message::MsgRef;
 pub use fault::{Fault, InputKind};
+pub use pb_schema::Name;
 pub use pb_wire::{WireFault, WireKind};
 pub use program::{Outcome, run};

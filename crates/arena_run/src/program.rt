@@ -1,5 +1,5 @@
 // The top call, and the outcome of a run.
-ghost use Rattle.std.specs.Prelude.{◌≡◌, ◌↔◌, ◌+◌, ◌*◌, ◌^◌, ◌≤◌, ℕ, List, [], None, Some, Err, map, sum_by, IfOk, IfErr, IfNone};
+ghost use Rattle.std.specs.Prelude.{◌≡◌, ◌⊎◌, ◌*◌, ◌^◌, ◌<◌, ◌≤◌, ℕ, List, [], None, Some, length, map, IfOk, IfErr, IfNone};
 ghost use Rattle.std.specs.String.{string_bytes};
 ghost use Rattle.std.specs.Io.KnownBytes.{Appends};
 ghost use Rattle.arena_mem.specs.declared.place.Place.{Place};
@@ -9,21 +9,27 @@ ghost use Rattle.serial_arena.specs.Serial.{places_of, buffers_of, IsUnused};
 ghost use Rattle.serial_arena.specs.Key.{key_of};
 ghost use Rattle.pb_schema.specs.Builtin.{builtin};
 ghost use Rattle.pb_schema.specs.Frames.{frames_of};
+ghost use Rattle.pb_schema.specs.Names.{HasName, NoneBelow};
 ghost use Rattle.pb_schema.specs.Payloads.{framed_texts};
 ghost use Rattle.pb_schema.specs.Tree.{Tree};
 ghost use Rattle.arena_run.specs.Causes.{EndsByWords, EndsByFile, GrowsByFile, AreFew, most_made};
 ghost use Rattle.arena_run.specs.Contents.{OfContent, OfTrees};
 ghost use Rattle.arena_run.specs.Ends.{status_of, IsParsed, IsUnparsed, IsUnplaced, EndsWell, result_fault};
 ghost use Rattle.arena_run.specs.Faults.{first_fault};
-ghost use Rattle.arena_run.specs.Stands.{StandApart, StandAlone, foot_count, how_many};
-ghost use Rattle.arena_run.specs.Words.{IsCat};
+ghost use Rattle.arena_run.specs.Stands.{StandApart, StandShort, StandWritten};
+ghost use Rattle.arena_run.specs.Frames.{EndsByFrames, GrowsByFrames, StandsRead};
+ghost use Rattle.arena_run.specs.Words.{IsCat, IsTypeOf};
 
 use crate::fault::Fault;
 use crate::input::read_frames_file;
 use crate::parse::parse_frames;
-use crate::words::frames_word;
+use crate::words::cat_words;
 use crate::write::write_messages;
-use arena_mem::{Files, Memory, Place, Sink};
+use arena_mem::{Files, Memory, Sink};
+use dyn_message::MsgRef;
+use msg_layout::layouts;
+use msg_layout::tables::Layouts;
+use pb_schema::{Name, builtin};
 use serial_arena::{SerialArena, places_lie_apart};
 use std::alloc::Global;
 
@@ -32,20 +38,21 @@ use std::alloc::Global;
 pub struct Outcome {
     pub status: u8,
     pub fault: Option<Fault>,
-    pub registers: Vec<Place>,
+    pub registers: Vec<MsgRef>,
     pub arena: SerialArena,
 }
 
 /// Runs the program with these words over the files, the sink and the arena that are handed in.
 ///
 /// The words have one of three forms: `cat SET TYPE FRAMES WORKERS`, `run SET TYPE FRAMES SCRIPT WORKERS` and
-/// `gen SEED COUNT WORKERS`; all others are a `Usage`. So far one command is built: `cat builtin pb.Tick FRAMES 1` parses
-/// each frame of the file into the arena, in order, and writes each message behind its prefix: its field, where that isn't
-/// the default, and then the bytes of all records that don't fit the field, groups among them, as they stood. The other
-/// commands are refused as `NotBuilt`. FRAMES may be any name; a file that can't be read is a `ReadFault`, one of more
-/// than 2^24 bytes or 2^20 frames a `TooLong`, one whose frames are cut a `FrameCut`, and one in which a payload has a
-/// fault a `BadFrame`. What is said of a file's content or of the bytes that were taken holds where the files and the sink
-/// tell them. It asks for an arena in which nothing was placed and nothing is kept.
+/// `gen SEED COUNT WORKERS`; all others are a `Usage`. So far one command is built: `cat builtin TYPE FRAMES 1` parses
+/// each frame of the file into the arena as a message of the type, in order, and writes each message behind its prefix, as
+/// the encoding guide has it: its fields by ascending number, and then the bytes of all records that fit no field. The
+/// other commands are refused as `NotBuilt`, and a type that the built-in schema doesn't have as `NoType`. FRAMES may be any
+/// name; a file that can't be read is a `ReadFault`, one of more than 2^24 bytes or 2^20 frames a `TooLong`, one whose
+/// frames are cut a `FrameCut`, and one in which a payload has a fault a `BadFrame`. What is said of a file's content or
+/// of the bytes that were taken holds where the files and the sink tell them. It asks for an arena in which nothing was
+/// placed and nothing is kept.
 pub fn run<F: Files, O: Sink>(
     alloc: Global,
     words: &[String],
@@ -55,44 +62,39 @@ pub fn run<F: Files, O: Sink>(
 ) -> Outcome
     requires { IsUnused arena }
 
-    // The status is that of the fault. Each fault but want of memory comes exactly where it is the first, by the words or
-    // by the frames file, in the order of the stages of a run.
+    // The status is that of the fault. Each fault but want of memory comes exactly where it is the first, by the words, by
+    // the type or by the frames file, in the order of the stages of a run.
     ensures status { result.status ≡ status_of result.fault }
     ensures by_words { EndsByWords (map string_bytes words.now) result.fault }
     ensures by_file { EndsByFile F.contents F.faults F.blamed (map string_bytes words.now) files.old files.new result.fault }
 
     // Where all goes well, the sink took the framed texts of the decoded payloads, in order, and nothing else; where it
     // fails, a front of them and not all; on every other fault it was never called. It fails only where its count rose.
-    ensures bytes { IfNone result.fault (OfTrees (map string_bytes words.now) (F.contents files.old) (λ trees. Appends (O.taken out.old) (O.taken out.new) (framed_texts builtin 0 trees))) }
-    ensures prefix { result.fault ≡ Some Fault.WriteFault → OfTrees (map string_bytes words.now) (F.contents files.old) (λ trees. TookPart (O.taken out.old) (O.taken out.new) (framed_texts builtin 0 trees)) }
+    ensures bytes { IfNone result.fault (OfTrees (map string_bytes words.now) (F.contents files.old) (λ type_no trees. Appends (O.taken out.old) (O.taken out.new) (framed_texts builtin type_no trees))) }
+    ensures prefix { result.fault ≡ Some Fault.WriteFault → OfTrees (map string_bytes words.now) (F.contents files.old) (λ type_no trees. TookPart (O.taken out.old) (O.taken out.new) (framed_texts builtin type_no trees)) }
     ensures nothing_written { IsUnparsed result.fault → out.new ≡ out.old }
     ensures write_fault { result.fault ≡ Some Fault.WriteFault → Rose (O.faults out.old) (O.faults out.new) }
     ensures sink_counts { O.faults out.old ≤ O.faults out.new }
 
     // In both of these each register stands for the tree of its frame in the arena that is handed back, on feet of its
     // own, each foot once, and no two places share a byte. On every other fault there are no registers.
-    ensures registers { IsParsed result.fault → OfTrees (map string_bytes words.now) (F.contents files.old) (StandApart (places_of result.arena) (buffers_of result.arena) result.registers.items) }
+    ensures registers { IsParsed result.fault → OfTrees (map string_bytes words.now) (F.contents files.old) (λ type_no trees. StandApart builtin (places_of result.arena) (buffers_of result.arena) type_no result.registers.items trees) }
     ensures apart { (p q : Place) → IsLive (places_of result.arena) p → IsLive (places_of result.arena) q → (p ≡ q → ⊥) → Apart p q }
     ensures no_registers { IsUnparsed result.fault → result.registers.items ≡ [] }
 
-    // And nothing else is in the arena.
-    ensures only { IsParsed result.fault → OfTrees (map string_bytes words.now) (F.contents files.old) (λ trees. how_many (places_of result.arena) (buffers_of result.arena) ≡ sum_by foot_count trees) }
+    // Whatever the files tell, the registers stand for trees, and what the sink took is the text of these.
+    ensures stand { IsParsed result.fault → StandWritten builtin (places_of result.arena) (buffers_of result.arena) result.registers.items result.fault (O.taken out.old) (O.taken out.new) }
 
-    // Whatever the files tell, the registers stand for trees, nothing else is in the arena, and what the sink took is the
-    // text of these.
-    ensures stand { IsParsed result.fault → (trees : List Tree) × StandApart (places_of result.arena) (buffers_of result.arena) result.registers.items trees × (how_many (places_of result.arena) (buffers_of result.arena) ≡ sum_by foot_count trees) }
-    ensures wrote { (trees : List Tree) → StandApart (places_of result.arena) (buffers_of result.arena) result.registers.items trees → IfNone result.fault (Appends (O.taken out.old) (O.taken out.new) (framed_texts builtin 0 trees)) }
-    ensures wrote_part { (trees : List Tree) → StandApart (places_of result.arena) (buffers_of result.arena) result.registers.items trees → result.fault ≡ Some Fault.WriteFault → TookPart (O.taken out.old) (O.taken out.new) (framed_texts builtin 0 trees) }
-
-    // A file without a fault that is there ends well, or in want of memory, where nothing failed.
-    ensures complete { (frames content : List ℕ) → IsCat (map string_bytes words.now) frames → content_of (F.contents files.old) frames ≡ Some content → first_fault content ≡ None
+    // A file without a fault that is there, of a type that there is, ends well, or in want of memory, where nothing failed.
+    ensures complete { (type_name frames content : List ℕ) (type_no : ℕ) → IsCat (map string_bytes words.now) type_name frames → IsTypeOf type_name type_no
+        → content_of (F.contents files.old) frames ≡ Some content → first_fault type_no content ≡ None
         → (Rose (F.faults files.old) (F.faults files.new) → ⊥) → (Rose (O.faults out.old) (O.faults out.new) → ⊥) → EndsWell result.fault }
 
     // The arena keeps its owner, life, region and policy. It is as it was handed in where no payload was parsed. On
     // whatever fault it has at most 4 places for each byte of a payload and each frame, and as many kept buffers.
     ensures key { key_of result.arena ≡ key_of arena }
     ensures unplaced { IsUnplaced result.fault → result.arena ≡ arena }
-    ensures few { OfContent (map string_bytes words.now) (F.contents files.old) (λ content. IfOk (frames_of content) (λ payloads. AreFew (most_made payloads) (places_of result.arena) (buffers_of result.arena))) }
+    ensures few { OfContent (map string_bytes words.now) (F.contents files.old) (λ type_no content. IfOk (frames_of content) (λ payloads. AreFew (most_made payloads) (places_of result.arena) (buffers_of result.arena))) }
     ensures few_of_any { AreFew (4 * 2 ^ 24) (places_of result.arena) (buffers_of result.arena) }
 {
     let (fault, registers) = cat(alloc, words, files, out, &mut arena);
@@ -115,26 +117,85 @@ fn status_of_fault(fault: &Option<Fault>) -> u8
     }
 }
 
+// The layouts of the types that are built in.
+fn builtin_layouts(alloc: Global) -> Result<Layouts, Fault>
+    ensures value { IfOk result (λ types. types ≡ builtin) }
+    ensures no_memory { IfErr result (λ fault. fault ≡ Fault.NoMemory) }
+{
+    let Ok(schema) = builtin(alloc) else {
+        return Err(Fault::NoMemory);
+    };
+    match layouts(alloc, schema) {
+        Ok(types) => Ok(types),
+        Err(_) => Err(Fault::NoMemory),
+    }
+}
+
+// The number of the type of that name.
+fn find_type(alloc: Global, types: &Layouts, type_name: &str) -> Result<u32, Fault>
+    ensures found { IfOk result (λ type_no. HasName types.now type_name.now type_no × NoneBelow types.now type_name.now type_no) }
+    ensures none { IfErr result (λ fault. (fault ≡ Fault.NoMemory) ⊎ ((fault ≡ Fault.NoType type_name.now) × NoneBelow types.now type_name.now (2 ^ 32))) }
+{
+    if let Some(type_no) = types.schema().find(type_name) {
+        return Ok(type_no);
+    }
+    match Name::of(alloc, type_name) {
+        Ok(name) => Err(Fault::NoType { name }),
+        Err(_) => Err(Fault::NoMemory),
+    }
+}
+
+// The messages of a frames file, and the layouts of their types.
+#[derive(Drop)]
+struct Parsed {
+    types: Layouts,
+    messages: Vec<MsgRef>,
+}
+
+// Reads the frames file of that name, and parses each frame into a message of the type.
+fn read_of_type<F: Files, M: Memory>(
+    alloc: Global,
+    types: &Layouts,
+    type_no: u32,
+    frames: &str,
+    files: &mut F,
+    mem: &mut M,
+) -> Result<Vec<MsgRef>, Fault>
+    requires types { types.now ≡ builtin }
+    requires there { type_no < length types.now.types }
+    ensures by_frames { EndsByFrames F.contents F.faults F.blamed type_no frames.now files.old files.new (result_fault result) }
+    ensures memory { GrowsByFrames M.key M.places M.buffers M.blocks (content_of (F.contents files.old) frames.now) (result_fault result) mem.old mem.new }
+    ensures stand { IfOk result (λ messages. StandsRead (M.places mem.new) (M.buffers mem.new) (content_of (F.contents files.old) frames.now) type_no messages.items) }
+{
+    let Ok(name) = String::from_str(alloc, frames) else {
+        return Err(Fault::NoMemory);
+    };
+    let frames = read_frames_file(alloc, files, name)?;
+    parse_frames(alloc, mem, types, type_no, &frames)
+}
+
 // Reads and parses the frames file that the words name.
 fn read_messages<F: Files, M: Memory>(
     alloc: Global,
     words: &[String],
     files: &mut F,
     mem: &mut M,
-) -> Result<Vec<Place>, Fault>
+) -> Result<Parsed, Fault>
     ensures by_words { EndsByWords (map string_bytes words.now) (result_fault result) }
     ensures by_file { EndsByFile F.contents F.faults F.blamed (map string_bytes words.now) files.old files.new (result_fault result) }
     ensures memory { GrowsByFile M.key M.places M.buffers M.blocks (map string_bytes words.now) (F.contents files.old) (result_fault result) mem.old mem.new }
     ensures unparsed { IfErr result (λ fault. IsUnparsed (Some fault)) }
-    ensures trees { IfOk result (λ messages. OfTrees (map string_bytes words.now) (F.contents files.old) (StandAlone (how_many (M.places mem.old) (M.buffers mem.old)) (M.places mem.new) (M.buffers mem.new) messages.items)) }
-    ensures stand { IfOk result (λ messages. (trees : List Tree) × StandAlone (how_many (M.places mem.old) (M.buffers mem.old)) (M.places mem.new) (M.buffers mem.new) messages.items trees) }
+    ensures types { IfOk result (λ parsed. parsed.types ≡ builtin) }
+    ensures trees { IfOk result (λ parsed. OfTrees (map string_bytes words.now) (F.contents files.old) (λ type_no trees. StandShort builtin (M.places mem.new) (M.buffers mem.new) type_no parsed.messages.items trees)) }
+    ensures stand { IfOk result (λ parsed. (type_no : ℕ) × (trees : List Tree) × StandShort builtin (M.places mem.new) (M.buffers mem.new) type_no parsed.messages.items trees) }
 {
-    let word = frames_word(words)?;
-    let Ok(name) = String::from_str(alloc, word) else {
-        return Err(Fault::NoMemory);
-    };
-    let frames = read_frames_file(alloc, files, name)?;
-    parse_frames(alloc, mem, &frames)
+    let named = cat_words(words)?;
+    let types = builtin_layouts(alloc)?;
+    let type_no = find_type(alloc, &types, named.type_name)?;
+    match read_of_type(alloc, &types, type_no, named.frames, files, mem) {
+        Ok(messages) => Ok(Parsed { types, messages }),
+        Err(fault) => Err(fault),
+    }
 }
 
 // Runs the command over any memory, and answers the messages where the frames file was parsed.
@@ -144,23 +205,23 @@ fn cat<F: Files, O: Sink, M: Memory>(
     files: &mut F,
     out: &mut O,
     mem: &mut M,
-) -> (Option<Fault>, Vec<Place>)
+) -> (Option<Fault>, Vec<MsgRef>)
     ensures by_words { EndsByWords (map string_bytes words.now) result.0 }
     ensures by_file { EndsByFile F.contents F.faults F.blamed (map string_bytes words.now) files.old files.new result.0 }
     ensures memory { GrowsByFile M.key M.places M.buffers M.blocks (map string_bytes words.now) (F.contents files.old) result.0 mem.old mem.new }
-    ensures trees { IsParsed result.0 → OfTrees (map string_bytes words.now) (F.contents files.old) (StandAlone (how_many (M.places mem.old) (M.buffers mem.old)) (M.places mem.new) (M.buffers mem.new) result.1.items) }
-    ensures stand { IsParsed result.0 → (trees : List Tree) × StandAlone (how_many (M.places mem.old) (M.buffers mem.old)) (M.places mem.new) (M.buffers mem.new) result.1.items trees }
+    ensures trees { IsParsed result.0 → OfTrees (map string_bytes words.now) (F.contents files.old) (λ type_no trees. StandApart builtin (M.places mem.new) (M.buffers mem.new) type_no result.1.items trees) }
+    ensures bytes { IfNone result.0 (OfTrees (map string_bytes words.now) (F.contents files.old) (λ type_no trees. Appends (O.taken out.old) (O.taken out.new) (framed_texts builtin type_no trees))) }
+    ensures prefix { result.0 ≡ Some Fault.WriteFault → OfTrees (map string_bytes words.now) (F.contents files.old) (λ type_no trees. TookPart (O.taken out.old) (O.taken out.new) (framed_texts builtin type_no trees)) }
+    ensures stand { IsParsed result.0 → StandWritten builtin (M.places mem.new) (M.buffers mem.new) result.1.items result.0 (O.taken out.old) (O.taken out.new) }
     ensures no_registers { IsUnparsed result.0 → result.1.items ≡ [] }
-    ensures wrote { (trees : List Tree) → StandApart (M.places mem.new) (M.buffers mem.new) result.1.items trees → IfNone result.0 (Appends (O.taken out.old) (O.taken out.new) (framed_texts builtin 0 trees)) }
-    ensures wrote_part { (trees : List Tree) → StandApart (M.places mem.new) (M.buffers mem.new) result.1.items trees → result.0 ≡ Some Fault.WriteFault → TookPart (O.taken out.old) (O.taken out.new) (framed_texts builtin 0 trees) }
     ensures nothing_written { IsUnparsed result.0 → out.new ≡ out.old }
     ensures write_fault { result.0 ≡ Some Fault.WriteFault → Rose (O.faults out.old) (O.faults out.new) }
     ensures sink_counts { O.faults out.old ≤ O.faults out.new }
 {
     match read_messages(alloc, words, files, mem) {
-        Ok(messages) => match write_messages(mem, &messages, out) {
-            Ok(()) => (None, messages),
-            Err(_) => (Some(Fault::WriteFault), messages),
+        Ok(parsed) => match write_messages(mem, &parsed.types, &parsed.messages, out) {
+            Ok(()) => (None, parsed.messages),
+            Err(_) => (Some(Fault::WriteFault), parsed.messages),
         },
         Err(fault) => (Some(fault), Vec::new(alloc)),
     }

@@ -1,7 +1,7 @@
 // The words of the command line.
-ghost use Rattle.std.specs.Prelude.{◌≡◌, ◌+◌, ◌^◌, ◌<◌, ◌≤◌, true, false, length, map, codes, IfOk, IfErr, IfSome, IfNone, MatchOption};
+ghost use Rattle.std.specs.Prelude.{◌≡◌, ◌+◌, ◌^◌, ◌<◌, ◌≤◌, true, false, Some, length, map, codes, IfOk, IfErr, IfSome, IfNone, MatchOption};
 ghost use Rattle.std.specs.String.{string_bytes};
-ghost use Rattle.arena_run.specs.Ends.{IsOfWords, result_fault};
+ghost use Rattle.arena_run.specs.Ends.{IsOfWords};
 ghost use Rattle.arena_run.specs.Causes.{EndsByWords};
 ghost use Rattle.arena_run.specs.Words.{number_in, Spells, IsNumber, HasNoForm, IsReadFrom, IsCat};
 
@@ -17,10 +17,17 @@ const MOST_SEED: u64 = 4294967295;
 /// The greatest count of frames that are made, which has five digits.
 const MOST_COUNT: u64 = 65535;
 
-/// The name of the frames file, where the words are those of the command that is built.
-pub fn frames_word(words: &[String]) -> Result<&str, Fault>
-    ensures built { IfOk result (λ frames. IsCat (map string_bytes words.now) frames.now) }
-    ensures by_words { EndsByWords (map string_bytes words.now) (result_fault result) }
+/// The words of the command that is built: the name of a type, and that of a frames file.
+#[derive(Clone, Copy, Debug, PartialEq, Eq)]
+pub struct CatWords<'a> {
+    pub type_name: &'a str,
+    pub frames: &'a str,
+}
+
+/// The type and the frames file, where the words are those of the command that is built.
+pub fn cat_words(words: &[String]) -> Result<CatWords<'_>, Fault>
+    ensures built { IfOk result (λ found. IsCat (map string_bytes words.now) found.type_name.now found.frames.now) }
+    ensures by_words { IfErr result (λ fault. EndsByWords (map string_bytes words.now) (Some fault)) }
     ensures kind { IfErr result (λ fault. IsOfWords (Some fault)) }
 {
     let Some(command) = command_of(words) else {
@@ -33,8 +40,8 @@ pub fn frames_word(words: &[String]) -> Result<&str, Fault>
             frames,
             workers,
         } => {
-            if is_built(set, type_name, workers) {
-                Ok(frames)
+            if is_built(set, workers) {
+                Ok(CatWords { type_name, frames })
             } else {
                 Err(Fault::NotBuilt)
             }
@@ -44,12 +51,12 @@ pub fn frames_word(words: &[String]) -> Result<&str, Fault>
     }
 }
 
-// Whether `cat` is built for this set, type and number of workers.
-fn is_built(set: &str, type_name: &str, workers: u8) -> bool
-    ensures yes { result ≡ true → (set.now ≡ codes "builtin") × (type_name.now ≡ codes "pb.Tick") × (workers ≡ 1) }
-    ensures no { result ≡ false → (set.now ≡ codes "builtin") × (type_name.now ≡ codes "pb.Tick") × (workers ≡ 1) → ⊥ }
+// Whether `cat` is built for this set and number of workers.
+fn is_built(set: &str, workers: u8) -> bool
+    ensures yes { result ≡ true → (set.now ≡ codes "builtin") × (workers ≡ 1) }
+    ensures no { result ≡ false → (set.now ≡ codes "builtin") × (workers ≡ 1) → ⊥ }
 {
-    set == "builtin" && type_name == "pb.Tick" && workers == 1
+    set == "builtin" && workers == 1
 }
 
 /// What the words ask for; none where they have none of the three forms.

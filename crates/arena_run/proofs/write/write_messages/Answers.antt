@@ -1,60 +1,76 @@
-use Rattle.std.proofs.Common.{◌+◌, ◌++◌, take, drop, sym, ap, ◌∙◌, append-nil, subst, arith}
-use Rattle.std.specs.Io.KnownBytes.{Appends}
-use Rattle.std.proofs.lemmas.Result.{on_ok_weaker, on_err_weaker}
+use Rattle.std.proofs.Common.{[], ◌+◌, get_or, drop, refl, arith}
+use Rattle.pb_schema.specs.Payloads.{framed_texts}
+use Rattle.pb_schema.specs.Text.{framed}
 use Rattle.arena_mem.specs.declared.place.Place.{Place}
-use Rattle.arena_run.specs.Stands.{tick}
-use Rattle.pb_schema.specs.Builtin.{builtin}
-use Rattle.pb_schema.specs.Payloads.{framed_text, framed_texts}
-use Rattle.arena_run.proofs.AllStand.{stands_at_index, output_parts, all_written}
-use Rattle.arena_run.proofs.Gathered.{OnErr-from, written_more, written_part}
-use Rattle.arena_run.proofs.Taken.{part_handed_over, all_handed_over, KeepsTaken-trans}
+use Rattle.dyn_message.specs.declared.msg_ref.MsgRef.{MsgRef}
+use Rattle.pb_write.specs.Texts.{shape_text}
+use Rattle.pb_write.specs.Waiting.{waiting_in}
+use Rattle.pb_write.proofs.Taken.{KeepsTaken-trans}
+use Rattle.pb_write.proofs.Gathering.{KeepsTaken-refl}
+use Rattle.pb_write.proofs.Writing.{written_none, written_more, written_failed, written_all, part_at_last}
+use Rattle.arena_run.proofs.Written.{next_text, none_left, on_err, handed_last, none_waits}
 use Rattle.arena_run.proofs.write.write_messages.Goals as goal
 
-abbrev no_place : Place
-no_place = record { region = 0; block = 0; offset = 0; len = 0 }
+abbrev no_message : MsgRef
+no_message = record { place = record { region = 0; block = 0; offset = 0; len = 0 }; type_no = 0 }
 
-pub put_message-requires-clause-stands : goal.put_message-requires-clause-stands
-put_message-requires-clause-stands g c =
-    let all = c.requires in
-    let at = stands_at_index _ _ c.args.messages.now all.0 all.1 c.loop-message.message-index no_place c.loop-message-test.true all.2 in
-    (at.value, at.unknown, at.own, at.stands)
+pub write_framed-requires : goal.write_framed-requires
+write_framed-requires g c =
+    let M = g.M.Memory in
+    let at = next_text c.args.types.now (M.places c.args.mem.now) (M.buffers c.args.mem.now) c.requires.0 c.args.messages.now c.requires.1 c.loop-message.message-index no_message c.loop-message-test.true c.requires.2 in
+    (at.shape, at.own, at.stands, omega (arith, at.short))
 
-pub returns-in_err-filled-clause-err : goal.returns-in_err-filled-clause-err
-returns-in_err-filled-clause-err g c = λ trees feet all.
+pub returns-in_err-write_framed-clause-err : goal.returns-in_err-write_framed-clause-err
+returns-in_err-write_framed-clause-err g c = λ type_no trees all.
+    let M = g.M.Memory in
+    let O = g.O.Sink in
+    let schema = c.args.types.now in
     let i = c.loop-message.message-index in
-    let at = stands_at_index _ _ c.args.messages.now trees feet i no_place c.loop-message-test.true all in
-    let frame = framed_text builtin 0 (tick at.value at.unknown) in
-    OnErr-from (c.from_residual.result)
-    (written_part _ (g.O.Sink.taken c.loop-message.out) _ (take c.loop-message.filled c.loop-message.buffer) (framed_texts builtin 0 (take i trees)) frame (framed_texts builtin 0 (drop (i + 1) trees)) _ c.loop-message.invariant.kept (c.loop-message.invariant.frames trees feet all)
-    (c.in_err-filled.ensures.err at.value at.unknown at.own at.stands) (output_parts trees (i + 1) ∙ ap (λ bs. bs ++ framed_texts builtin 0 (drop (i + 1) trees)) at.output))
+    let at = next_text schema (M.places c.args.mem.now) (M.buffers c.args.mem.now) type_no c.args.messages.now trees i no_message c.loop-message-test.true all in
+    let message = get_or c.args.messages.now i no_message in
+    on_err c.from_residual.result _
+    (written_failed (O.taken c.args.out.now) (O.taken c.loop-message.out) (O.taken c.write_framed.new.sink) [] (waiting_in c.loop-message.rooms) (framed_texts schema type_no trees) (framed_texts schema type_no (drop i trees)) (framed (shape_text schema message.type_no at.shape))
+    (framed_texts schema type_no (drop (i + 1) trees)) c.loop-message.invariant.kept (c.loop-message.invariant.frames type_no trees all) at.rest (c.in_err-write_framed.ensures.written at.shape at.own at.stands at.short).err)
 
-pub loop-message-preserved : goal.loop-message-preserved
-loop-message-preserved g c = record {
-  frames = λ trees feet all.
-      let i = c.loop-message.message-index in
-      let at = stands_at_index _ _ c.args.messages.now trees feet i no_place c.loop-message-test.true all in
-      written_more _ (g.O.Sink.taken c.loop-message.out) _ (take c.loop-message.filled c.loop-message.buffer) _ (framed_texts builtin 0 (take i trees)) (framed_text builtin 0 (tick at.value at.unknown)) _ (c.loop-message.invariant.frames trees feet all)
-      (c.in_ok-filled.ensures.ok at.value at.unknown at.own at.stands) at.output;
-  kept = KeepsTaken-trans _ _ _ c.loop-message.invariant.kept c.put_message.ensures.longer;
-  faults = omega (arith, c.put_message.ensures.cause.never_falls);
-  filled = c.in_ok-filled.ensures.bound;
-  size = omega arith;
+pub loop-message-init : goal.loop-message-init
+loop-message-init g c = record {
+  frames = λ type_no trees all. none_waits (g.O.Sink.taken c.args.out.now) _ (framed_texts c.args.types.now type_no trees) c.new-rooms.ensures;
+  kept = KeepsTaken-refl (g.O.Sink.taken c.args.out.now);
+  faults = omega arith;
 }
 
+pub loop-message-preserved : goal.loop-message-preserved
+loop-message-preserved g c =
+    let M = g.M.Memory in
+    let O = g.O.Sink in
+    let schema = c.args.types.now in
+    let i = c.loop-message.message-index in
+    record {
+      frames = λ type_no trees all.
+          let at = next_text schema (M.places c.args.mem.now) (M.buffers c.args.mem.now) type_no c.args.messages.now trees i no_message c.loop-message-test.true all in
+          let message = get_or c.args.messages.now i no_message in
+          written_more (O.taken c.args.out.now) (O.taken c.loop-message.out) (O.taken c.write_framed.new.sink) [] (waiting_in c.loop-message.rooms) (waiting_in c.write_framed.new.rooms) (framed_texts schema type_no trees) (framed_texts schema type_no (drop i trees)) (framed (shape_text schema message.type_no at.shape))
+          (framed_texts schema type_no (drop (i + 1) trees)) (c.loop-message.invariant.frames type_no trees all) at.rest (c.in_ok-write_framed.ensures.written at.shape at.own at.stands at.short).ok;
+      kept = KeepsTaken-trans (O.taken c.args.out.now) (O.taken c.loop-message.out) (O.taken c.write_framed.new.sink) c.loop-message.invariant.kept c.write_framed.ensures.sent.longer;
+      faults = omega (arith, c.loop-message.invariant.faults, c.write_framed.ensures.sent.cause.never_falls);
+    }
+
 pub returns-clause-ok : goal.returns-clause-ok
-returns-clause-ok g c = λ trees feet all.
-    let whole = all_written _ _ c.args.messages.now trees feet c.loop-message.message-index c.loop-message-test.false all in
-    let before = g.O.Sink.taken c.loop-message.out in
-    on_ok_weaker c.hand_over.result
-    (λ given. subst (Appends (g.O.Sink.taken c.args.out.now) (g.O.Sink.taken c.hand_over.new.out)) whole
-    (all_handed_over _ before _ (take c.loop-message.filled c.loop-message.buffer) _ (c.loop-message.invariant.frames trees feet all) given))
-    c.hand_over.ensures.ok
+returns-clause-ok g c = λ type_no trees all.
+    let M = g.M.Memory in
+    let O = g.O.Sink in
+    let schema = c.args.types.now in
+    let none = none_left schema (M.places c.args.mem.now) (M.buffers c.args.mem.now) type_no c.args.messages.now trees c.loop-message.message-index c.loop-message-test.false all in
+    handed_last (O.taken c.args.out.now) (O.taken c.loop-message.out) (O.taken c.flush.new.sink) (waiting_in c.loop-message.rooms) (framed_texts schema type_no trees) c.flush.result
+    (written_all (O.taken c.args.out.now) (O.taken c.loop-message.out) [] (waiting_in c.loop-message.rooms) (framed_texts schema type_no trees) (framed_texts schema type_no (drop c.loop-message.message-index trees)) (c.loop-message.invariant.frames type_no trees all) none)
+    c.flush.ensures.ok
 
 pub returns-clause-err : goal.returns-clause-err
-returns-clause-err g c = λ trees feet all.
-    let whole = all_written _ _ c.args.messages.now trees feet c.loop-message.message-index c.loop-message-test.false all in
-    let before = g.O.Sink.taken c.loop-message.out in
-    on_err_weaker c.hand_over.result
-    (λ given. part_handed_over _ before _ (take c.loop-message.filled c.loop-message.buffer) _ _ _ c.loop-message.invariant.kept (c.loop-message.invariant.frames trees feet all)
-    given (sym whole ∙ sym (append-nil _)))
-    c.hand_over.ensures.err
+returns-clause-err g c = λ type_no trees all.
+    let M = g.M.Memory in
+    let O = g.O.Sink in
+    let schema = c.args.types.now in
+    let none = none_left schema (M.places c.args.mem.now) (M.buffers c.args.mem.now) type_no c.args.messages.now trees c.loop-message.message-index c.loop-message-test.false all in
+    part_at_last (O.taken c.args.out.now) (O.taken c.loop-message.out) (O.taken c.flush.new.sink) [] (waiting_in c.loop-message.rooms) (waiting_in c.loop-message.rooms) (framed_texts schema type_no trees) c.flush.result c.loop-message.invariant.kept refl
+    (written_all (O.taken c.args.out.now) (O.taken c.loop-message.out) [] (waiting_in c.loop-message.rooms) (framed_texts schema type_no trees) (framed_texts schema type_no (drop c.loop-message.message-index trees)) (c.loop-message.invariant.frames type_no trees all) none)
+    refl c.flush.ensures.err

@@ -1,20 +1,20 @@
-use Rattle.std.proofs.Common.{◌≡◌, ◌≤◌, List, length, take}
-use Rattle.std.specs.Io.KnownBytes.{Appends, append_known}
-use Rattle.pb_schema.specs.Tree.{Tree}
-use Rattle.arena_run.specs.Stands.{Foot, AllStand}
+use Rattle.std.proofs.Common.{◌≤◌, ℕ, List, [], drop}
 use Rattle.arena_mem.specs.Outside.{KeepsTaken}
-use Rattle.pb_schema.specs.Builtin.{builtin}
 use Rattle.pb_schema.specs.Payloads.{framed_texts}
+use Rattle.pb_schema.specs.Tree.{Tree}
+use Rattle.pb_write.specs.Waiting.{waiting_in}
+use Rattle.pb_write.proofs.Writing.{IsWritten}
+use Rattle.arena_run.specs.Stands.{StandShort}
 use Rattle.arena_run.proofs.write.write_messages.Given as goal
 
--- what the sink took and what is gathered are the frames of the messages so far
+-- what the sink took and what waits are the texts of the messages so far
 abbrev pub invariant-loop-message : goal.invariant-loop-message
 invariant-loop-message g l =
     let O = g.O.Sink in
+    let M = g.M.Memory in
     record {
-      frames : (trees : List Tree) (feet : List Foot) → AllStand (g.M.Memory.places l.mem) (g.M.Memory.buffers l.mem) l.messages trees feet → Appends (O.taken l.fn.out) (append_known (O.taken l.out) (take l.filled l.buffer)) (framed_texts builtin 0 (take l.message-index trees));
+      frames : (type_no : ℕ) (trees : List Tree) → StandShort l.types (M.places l.mem) (M.buffers l.mem) type_no l.messages trees
+          → IsWritten (O.taken l.fn.out) [] (O.taken l.out) (waiting_in l.rooms) (framed_texts l.types type_no trees) (framed_texts l.types type_no (drop l.message-index trees));
       kept : KeepsTaken (O.taken l.fn.out) (O.taken l.out);
       faults : O.faults l.fn.out ≤ O.faults l.out;
-      filled : l.filled ≤ length l.buffer;
-      size : length l.buffer ≡ 32768;
     }

@@ -1,5 +1,0 @@
-use Rattle.arena_run.proofs.Slots.{place_read}
-use Rattle.arena_run.proofs.slot.place_slot.Goals as goal
-
-pub returns-clause-place : goal.returns-clause-place
-returns-clause-place c = place_read c.slot_of.result c.args.place c.args.count c.args.form c.slot_of.ensures

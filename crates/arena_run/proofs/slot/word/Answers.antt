@@ -1,8 +1,0 @@
-use Rattle.std.proofs.Common.{◌*◌, take, drop, ap, ◌∙◌, arith, w32}
-use Rattle.std.specs.Int.{from_le_bytes}
-use Rattle.arena_run.specs.Stands.{word}
-use Rattle.arena_run.proofs.slot.word.Goals as goal
-
-pub returns : goal.returns
-unfolding word
-returns c = c.from_le_bytes.ensures ∙ ap (from_le_bytes w32) (c.copy_from_slice.ensures.after ∙ ap (λ n. take n (drop (4 * c.args.index) c.args.slot.now)) {y = 4} (omega arith))
