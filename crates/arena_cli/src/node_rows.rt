@@ -52,7 +52,11 @@ fn node_rows_end_as_they_say(rt: HostRuntime) -> Result<(), Fail> {
         let is_told = has_fault(&end.fault, *fault);
         assert!(rt; is_told, "{name}");
         assert_eq!(rt; end.written.as_slice(), *written, "{name}");
-        assert_eq!(rt; end.registers, if fault.is_none() { 1 } else { 0 }, "{name}");
+        assert_eq!(rt;
+            end.registers,
+            if fault.is_none() { 1 } else { 0 },
+            "{name}"
+        );
     }
     Ok(())
 }

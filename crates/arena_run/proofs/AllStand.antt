@@ -1,6 +1,5 @@
 -- Messages that stand for trees side by side.
-use Rattle.std.proofs.Common.{◌≡◌, ◌⊎◌, ◌+◌, ◌≤◌, ℕ, List, [], ◌∷◌, ◌++◌, Option, None, Some, refl, sym, ap, ◌∙◌, subst, ⊎_elim, append_assoc, append-nil, arith}
-use Rattle.std.specs.Prelude.{IsSome}
+use Rattle.std.proofs.Common.{◌≡◌, ℕ, List, [], ◌∷◌, ◌++◌, None, refl, sym, ap, ◌∙◌, ⊎_elim, append_assoc, append-nil, arith}
 use Rattle.std.specs.List.{AllByRecursion}
 use Rattle.std.proofs.lemmas.Option.{none-some}
 use Rattle.arena_mem.specs.Places.{Places, Buffers, KeepsRest, KeepsBuffers}
@@ -8,14 +7,14 @@ use Rattle.pb_schema.specs.declared.schema.Schema.{Schema}
 use Rattle.pb_schema.specs.Tree.{Tree}
 use Rattle.dyn_message.specs.declared.msg_ref.MsgRef.{MsgRef}
 use Rattle.dyn_message.specs.Feet.{Foot, Once, times, IsAmong, AreThere, SameAt, foot_bytes}
-use Rattle.dyn_message.specs.Stands.{Stands, StandsFor}
+use Rattle.dyn_message.specs.Stands.{StandsFor}
 use Rattle.dyn_message.proofs.Counting.{times_join, among_or}
 use Rattle.dyn_message.proofs.Messages.{some_value}
 use Rattle.dyn_message.proofs.SameBytes.{message_same}
 use Rattle.dyn_message.proofs.Setting.{growth_keeps}
 use Rattle.dyn_message.proofs.There.{message_there}
 use Rattle.arena_run.specs.Made.{IsMade}
-use Rattle.arena_run.specs.Stands.{AllStand, StandApart, StandShort}
+use Rattle.arena_run.specs.Stands.{AllStand, StandShort}
 
 -- ONE MESSAGE
 

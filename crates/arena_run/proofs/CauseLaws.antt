@@ -1,6 +1,6 @@
 -- How the causes of a run follow from those of its parts.
 use Rattle.std.proofs.Common.{◌≡◌, ◌⊎◌, ◌+◌, ◌*◌, ◌^◌, ◌<◌, ◌≤◌, ℕ, zero, suc, List, [], ◌∷◌, length, Option, None, Some, Result, Ok, Err, refl, sym, ap, subst, inl, inr, ⊎_elim, arith}
-use Rattle.std.specs.Prelude.{sum_by, IfOk, IfErr, IfSome, IfNone, IsSomeAnd, IsErrAnd}
+use Rattle.std.specs.Prelude.{sum_by, IfOk, IfErr, IfSome, IsSomeAnd, IsErrAnd}
 use Rattle.std.specs.Option.{option_map}
 use Rattle.std.specs.List.{slice_get}
 use Rattle.std.proofs.lemmas.Option.{none-some}
@@ -24,7 +24,7 @@ use Rattle.arena_run.specs.declared.fault.Fault.{Fault}
 use Rattle.arena_run.specs.declared.fault.Fault.TheVariants.{NoMemory, Usage, NoType, ReadFault, WriteFault, NotBuilt}
 use Rattle.arena_run.specs.Causes.{EndsByWords, ReadsFile, EndsByFile, AreFew, most_made, GrowsByFile}
 use Rattle.arena_run.specs.Contents.{OfContent, HasTrees, OfTrees}
-use Rattle.arena_run.specs.Ends.{first_stage, last_stage, at_types, at_writing, IsPastWords, IsRead, IsParsed, IsUnparsed, EndsWell, EndsBy, IsOfFile, IsOfPayloads, result_fault}
+use Rattle.arena_run.specs.Ends.{first_stage, last_stage, at_types, at_writing, IsPastWords, EndsWell, EndsBy, IsOfFile, IsOfPayloads, result_fault}
 use Rattle.arena_run.specs.Faults.{bad_frame, payloads_fault, first_fault, trees_in}
 use Rattle.arena_run.specs.Frames.{EndsByFrames, GrowsByFrames, StandsRead}
 use Rattle.arena_run.specs.Stands.{StandShort, StandWritten}

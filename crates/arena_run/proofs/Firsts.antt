@@ -1,12 +1,11 @@
 -- The first fault of a file, from where it was read to.
-use Rattle.std.proofs.Common.{◌≡◌, ◌⊎◌, ◌^◌, ◌<◌, ◌≤◌, ℕ, zero, suc, Bool, true, false, cond, leb, get_or, List, [], ◌∷◌, length, Option, None, Some, Result, Ok, Err, sym, ap, ◌∙◌, subst, inl, inr, arith}
-use Rattle.std.specs.Prelude.{All, IfOk, IfErr, IfSome, IsSomeAnd, IsErrAnd}
+use Rattle.std.proofs.Common.{◌≡◌, ◌⊎◌, ◌^◌, ◌<◌, ◌≤◌, ℕ, Bool, true, false, cond, leb, List, length, Option, None, Some, Result, Ok, Err, sym, ap, ◌∙◌, subst, inl, inr, arith}
+use Rattle.std.specs.Prelude.{IfOk, IfErr, IfSome, IsSomeAnd, IsErrAnd}
 use Rattle.std.proofs.lemmas.Bool.{cond-true, cond-false, le-leb, lt-leb}
 use Rattle.pb_schema.specs.Builtin.{builtin}
-use Rattle.pb_schema.specs.Frames.{Frames, frames_of}
+use Rattle.pb_schema.specs.Frames.{frames_of}
 use Rattle.pb_schema.specs.Payloads.{trees_of}
 use Rattle.pb_schema.specs.Tree.{Tree}
-use Rattle.pb_schema.proofs.FrameLaws.{frames_found}
 use Rattle.pb_wire.specs.declared.frame_fault.FrameFault.{FrameFault}
 use Rattle.pb_wire.specs.FrameAnswers.{answer_from, answer_of}
 use Rattle.arena_run.specs.declared.fault.Fault.{Fault}

@@ -1,12 +1,12 @@
 -- How long the payloads of a file are together, and how many they are.
-use Rattle.std.proofs.Common.{◌≡◌, ◌+◌, ◌*◌, ◌^◌, ◌<◌, ◌≤◌, ℕ, List, [], ◌∷◌, ◌++◌, length, take, Option, Some, Ok, ap, ◌∙◌, length-append, length-take, arith}
+use Rattle.std.proofs.Common.{◌≡◌, ◌+◌, ◌*◌, ◌^◌, ◌<◌, ◌≤◌, ℕ, List, [], ◌∷◌, ◌++◌, length, take, Some, Ok, ap, ◌∙◌, length-append, length-take, arith}
 use Rattle.std.specs.Prelude.{sum_by, slice_get}
 use Rattle.std.proofs.lemmas.List.Sums.{sum_by-cons, sum_by_push, sum_by-take-le}
 use Rattle.pb_schema.specs.Frames.{Frames, frames_of}
-use Rattle.pb_schema.specs.Varint.{IsContinued, Varint}
+use Rattle.pb_schema.specs.Varint.{IsContinued}
 use Rattle.pb_schema.proofs.FrameLaws.{frames_found}
 use Rattle.arena_run.specs.Causes.{most_made}
-use Rattle.arena_run.proofs.Parsing.{taken_more, slice_below}
+use Rattle.arena_run.proofs.Parsing.{taken_more}
 
 some_bytes : (s : List ℕ) → IsContinued s → 1 ≤ length s
 some_bytes [] continued = absurd continued

@@ -1,5 +1,5 @@
 -- A message that is made and then parsed into: to all that was there before, this is a growth.
-use Rattle.std.proofs.Common.{◌≡◌, ◌⊎◌, ◌+◌, ◌≤◌, ◌^◌, ◌<◌, ◌*◌, ℕ, List, [], ◌∷◌, length, take, Option, None, Some, refl, sym, ap, ◌∙◌, subst, ⊎_elim, arith}
+use Rattle.std.proofs.Common.{◌≡◌, ◌+◌, ◌^◌, ◌<◌, ◌*◌, ℕ, List, [], ◌∷◌, length, take, None, Some, refl, sym, ap, ◌∙◌, subst, ⊎_elim, arith}
 use Rattle.std.specs.Prelude.{IsSome, IsSomeAnd, slice_get}
 use Rattle.std.specs.List.{concat}
 use Rattle.std.specs.FinMap as map
@@ -10,11 +10,10 @@ use Rattle.arena_mem.specs.Places.{Places, Buffers}
 use Rattle.pb_schema.specs.declared.schema.Schema.{Schema}
 use Rattle.pb_schema.specs.Fault.{fault_of}
 use Rattle.pb_schema.specs.Lawful.{Lawful}
-use Rattle.pb_schema.specs.Text.{text_of}
-use Rattle.pb_schema.specs.Tree.{Tree, Shape, tree_map}
+use Rattle.pb_schema.specs.Tree.{Shape, tree_map}
 use Rattle.pb_schema.specs.TreeOf.{tree_of}
 use Rattle.dyn_message.specs.declared.msg_ref.MsgRef.{MsgRef}
-use Rattle.dyn_message.specs.Feet.{Foot, InPlace, InBuffer, IsAmong, foot_bytes}
+use Rattle.dyn_message.specs.Feet.{Foot, InPlace, InBuffer, foot_bytes}
 use Rattle.dyn_message.specs.Changes.{Changes, NowStands}
 use Rattle.dyn_message.proofs.Changing.{fresh_before}
 use Rattle.dyn_message.proofs.Counting.{one_is, not_one}

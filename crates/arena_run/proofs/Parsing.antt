@@ -12,7 +12,6 @@ use Rattle.pb_schema.specs.Payloads.{trees_of, bad_payload_from, bad_payload}
 use Rattle.pb_schema.specs.Tree.{Tree}
 use Rattle.pb_schema.specs.TreeOf.{tree_of}
 use Rattle.dyn_message.specs.declared.msg_ref.MsgRef.{MsgRef}
-use Rattle.arena_run.specs.declared.fault.Fault.{Fault}
 use Rattle.arena_run.specs.declared.fault.Fault.TheVariants.{BadFrame}
 use Rattle.arena_run.specs.Faults.{bad_frame}
 use Rattle.arena_run.specs.Made.{IsMade}

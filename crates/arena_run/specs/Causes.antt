@@ -1,5 +1,5 @@
 -- Why a run, or a part of it, ended as it did: by its words, by the files, and what it left in the memory.
-use Rattle.std.specs.Prelude.{◌≡◌, ◌↔◌, ◌+◌, ◌*◌, ◌^◌, ◌≤◌, ℕ, List, length, sum_by, Option, None, Some, IfOk}
+use Rattle.std.specs.Prelude.{◌≡◌, ◌↔◌, ◌+◌, ◌*◌, ◌^◌, ◌≤◌, ℕ, List, length, sum_by, Option, Some, IfOk}
 use Rattle.std.specs.FinMap as map
 use Rattle.arena_mem.specs.Grows.{Grows}
 use Rattle.arena_mem.specs.Outside.{NamedFiles, Rose, IsThere}

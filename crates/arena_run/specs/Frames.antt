@@ -1,5 +1,5 @@
 -- Why the reading of a frames file at a type that there is ended as it did, and what it left.
-use Rattle.std.specs.Prelude.{◌≡◌, ◌*◌, ◌+◌, ◌^◌, ◌<◌, ◌≤◌, ℕ, List, length, sum_by, Option, None, Some, IfOk, IfSome}
+use Rattle.std.specs.Prelude.{◌≡◌, ◌*◌, ◌^◌, ◌<◌, ℕ, List, Option, Some, IfOk, IfSome}
 use Rattle.arena_mem.specs.Grows.{Grows}
 use Rattle.arena_mem.specs.Outside.{NamedFiles, content_of}
 use Rattle.arena_mem.specs.Places.{Places, Buffers}

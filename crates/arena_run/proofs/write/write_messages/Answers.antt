@@ -1,13 +1,12 @@
 use Rattle.std.proofs.Common.{[], ◌+◌, get_or, drop, refl, arith}
 use Rattle.pb_schema.specs.Payloads.{framed_texts}
 use Rattle.pb_schema.specs.Text.{framed}
-use Rattle.arena_mem.specs.declared.place.Place.{Place}
 use Rattle.dyn_message.specs.declared.msg_ref.MsgRef.{MsgRef}
 use Rattle.pb_write.specs.Texts.{shape_text}
 use Rattle.pb_write.specs.Waiting.{waiting_in}
 use Rattle.pb_write.proofs.Taken.{KeepsTaken-trans}
 use Rattle.pb_write.proofs.Gathering.{KeepsTaken-refl}
-use Rattle.pb_write.proofs.Writing.{written_none, written_more, written_failed, written_all, part_at_last}
+use Rattle.pb_write.proofs.Writing.{written_more, written_failed, written_all, part_at_last}
 use Rattle.arena_run.proofs.Written.{next_text, none_left, on_err, handed_last, none_waits}
 use Rattle.arena_run.proofs.write.write_messages.Goals as goal
 
