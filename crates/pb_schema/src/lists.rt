@@ -36,6 +36,13 @@ impl Name {
     {
         self.bytes.as_slice() == text.as_bytes()
     }
+
+    /// The bytes of its text, where they lie.
+    pub fn as_bytes(&self) -> &[u8]
+        ensures { result.now ≡ self.now }
+    {
+        self.bytes.as_slice()
+    }
 }
 
 /// Bytes.

@@ -15,6 +15,7 @@ fn a_schema_is_made_of_lists(rt: HostRuntime) -> Result<(), Fail> {
     let Ok(name) = name else {
         return Ok(());
     };
+    assert_eq!(rt; name.as_bytes(), b"pb.Tick".as_slice());
     // The bytes of `pb.Tick`.
     let shown = format!(in rt.alloc(); "{name:?}")?;
     assert_eq!(rt;
