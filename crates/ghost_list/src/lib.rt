@@ -23,6 +23,11 @@ impl<T> Model for GhostList<T> {
     ghost also_owns = { λ _. ftrue };
 }
 
+// A struct with `also_owns` has neither by itself. This one owns nothing, whatever its items are.
+unsafe impl<T> Send for GhostList<T> {}
+
+unsafe impl<T> Sync for GhostList<T> {}
+
 impl<T> GhostList<T> {
     /// A list of nothing.
     pub fn new() -> GhostList<T>

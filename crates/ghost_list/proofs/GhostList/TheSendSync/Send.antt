@@ -1,0 +1,6 @@
+use denote.RattleType.{RattleType}
+use denote.Param.Send.{IsSend, owning_send, sendable}
+use Rattle.ghost_list.specs.contracts.GhostList.{the_row, the_type}
+
+pub send : (T : RattleType) → IsSend (the_row T)
+send T = owning_send (the_type T) (search sendable depth 20, tt) (λ d. tt) (λ k x w. tt)
