@@ -29,7 +29,7 @@ use Rattle.dyn_message.proofs.Opening.{both, set_by_mark, single_slot}
 
 -- READ
 
-form_of_zeros : (slot : List ℕ) → IsZero 24 slot → word 5 slot ≡ 0
+pub form_of_zeros : (slot : List ℕ) → IsZero 24 slot → word 5 slot ≡ 0
 form_of_zeros slot zeros = ap (word 5) zeros ∙ zero_form
 
 module _ (places : Places) (buffers : Buffers) (slot bytes : List ℕ) (feet : List Foot) where

@@ -21,6 +21,7 @@ pub mod Appending
 pub mod ListLaws
 pub mod UnknownLaws
 pub mod NestedLists
+pub mod OneShape
 mod Rows
 pub mod NodeFields
 pub mod ListCalls

@@ -79,11 +79,11 @@ has_field {Cards} {Types} schema type_no number field has found =
 
 -- NUMBERS
 
-zeros_in : (count : ℕ) → number_in (replicate count 0) ≡ 0
+pub zeros_in : (count : ℕ) → number_in (replicate count 0) ≡ 0
 zeros_in zero = refl
 zeros_in (suc count) = omega (arith, zeros_in count)
 
-holds_number : (type : ValueType) (slot : List ℕ) (p : ℕ) → HoldsNumber type slot p → number_in slot ≡ p
+pub holds_number : (type : ValueType) (slot : List ℕ) (p : ℕ) → HoldsNumber type slot p → number_in slot ≡ p
 holds_number (Scalar coding) slot p h = h.1
 holds_number Characters slot p h = absurd h
 holds_number Octets slot p h = absurd h

@@ -1,14 +1,14 @@
 //! Laws of what messages stand for, each the contract of a function that does nothing.
-ghost use Rattle.std.specs.Prelude.{◌+◌, ◌*◌, ◌≤◌, ℕ, List, IsSome, length};
+ghost use Rattle.std.specs.Prelude.{◌≡◌, ◌+◌, ◌*◌, ◌≤◌, ℕ, List, IsSome, length};
 ghost use Rattle.std.specs.List.{concat};
 ghost use Rattle.arena_mem.specs.Grows.{Grows};
 ghost use Rattle.arena_mem.specs.Places.{Places, Buffers};
 ghost use Rattle.pb_schema.specs.declared.schema.Schema.{Schema};
-ghost use Rattle.pb_schema.specs.Tree.{Shape};
+ghost use Rattle.pb_schema.specs.Tree.{Shape, Tree};
 ghost use Rattle.pb_schema.specs.Units.{tree_units};
 ghost use Rattle.dyn_message.specs.declared.msg_ref.MsgRef.{MsgRef};
 ghost use Rattle.dyn_message.specs.Feet.{Foot, InPlace, AreThere, IsAmong, KeepsOthers, OldOrFresh, SameAt, Separate, foot_bytes};
-ghost use Rattle.dyn_message.specs.Stands.{Stands};
+ghost use Rattle.dyn_message.specs.Stands.{Stands, StandsFor};
 ghost use Rattle.dyn_message.specs.Changes.{Changes};
 
 use arena_mem::Memory;
@@ -18,6 +18,20 @@ pub fn same_bytes_stand()
     ensures { (schema : Schema) (places places' : Places) (buffers buffers' : Buffers) (msg : MsgRef) (t : Shape) (feet : List Foot)
         → Stands schema places buffers msg t feet → SameAt places buffers places' buffers' feet
         → Stands schema places' buffers' msg t feet }
+{}
+
+/// Over one memory a message stands for one shape, on one list of feet.
+pub fn one_shape_stands()
+    ensures { (schema : Schema) (places : Places) (buffers : Buffers) (msg : MsgRef) (t u : Shape) (feet others : List Foot)
+        → Stands schema places buffers msg t feet → Stands schema places buffers msg u others
+        → (u ≡ t) × (others ≡ feet) }
+{}
+
+/// Over one memory a message stands for one tree, on one list of feet.
+pub fn one_tree_stands()
+    ensures { (schema : Schema) (places : Places) (buffers : Buffers) (msg : MsgRef) (tree other : Tree) (feet others : List Foot)
+        → StandsFor schema places buffers msg tree feet → StandsFor schema places buffers msg other others
+        → (other ≡ tree) × (others ≡ feet) }
 {}
 
 /// The places that a message stands on are live, and the buffers are kept.

@@ -25,7 +25,8 @@ mod unknown;
 pub use fields::is_set;
 pub use laws::{
     changes_join, changes_widen, feet_are_few, feet_are_there, growth_changes, old_or_fresh_joins,
-    record_is_a_foot, same_bytes_stand, separate_messages_stay, strangers_change_nothing,
+    one_shape_stands, one_tree_stands, record_is_a_foot, same_bytes_stand, separate_messages_stay,
+    strangers_change_nothing,
 };
 pub use links::{link_sub, make_sub, sub, unlink_sub};
 pub use lists::{append_scalar, count, element_scalar};
