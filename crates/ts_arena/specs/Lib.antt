@@ -9,3 +9,4 @@ pub mod Sides
 pub mod Places
 pub mod Parts
 pub mod Sole
+pub mod Ready

@@ -47,6 +47,8 @@ mod spot;
 #[cfg(test)]
 mod tests;
 mod used;
+#[cfg(test)]
+mod workers;
 
 pub use arena::Arena;
 pub use faults::{SettleFault, ShareFault, SoleFault};

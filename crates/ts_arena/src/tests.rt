@@ -5,6 +5,7 @@ use crate::callers::{
     adopt_first, copy_alone, enter_over_two_lives, fill_blocks, place_alone, put_pass, settle_one,
     settle_with, settle_with_foreign, share_among, share_with_one, take_pass, used_by_last, visit,
 };
+use crate::workers::{ROUNDS, seated, stood_up, work_all};
 use crate::{Arena, LifeRecord, SettleFault, ShareFault, SoleFault};
 use arena_block::Policy;
 use arena_mem::Memory;
@@ -154,6 +155,26 @@ fn a_lease_fills_blocks_by_the_policy(rt: HostRuntime) -> Result<(), Fail> {
     assert_eq!(rt;
         (arena.space_used(), arena.space_allocated()),
         (40_856, 74_576)
+    );
+    Ok(())
+}
+
+#[test]
+fn eight_callers_enter_a_thousand_times_each(rt: HostRuntime) -> Result<(), Fail> {
+    let callers = [0, 1, 2, 3, 4, 5, 6, 7];
+    let (shared, passes) = share_among(new_arena(rt.alloc(), 5), &callers)?;
+    let mut seats = seated(rt.alloc(), &shared, passes)?;
+    work_all(&rt, &shared, seats.as_mut_slice());
+    let mut passes = stood_up(rt.alloc(), &shared, seats)?;
+    let used = used_by_last(&shared, &mut passes)?;
+    let Ok(arena) = settle_with(shared, passes) else {
+        assert!(rt; false);
+        return Ok(());
+    };
+    let wanted = 8 * 32 * ROUNDS as u128;
+    assert_eq!(rt;
+        (used, arena.space_used(), arena.owners()),
+        (wanted, wanted, 8)
     );
     Ok(())
 }
