@@ -6,7 +6,7 @@ use Rattle.std.proofs.lemmas.List.Sums.{sum_by-cons}
 use mathlib.Core.Option.{some}
 use lib.ListN.{get_elem?}
 use Rattle.serial_arena.specs.Serial.{SerialState, used_of}
-use Rattle.serial_arena.specs.contracts.arena.SerialArena.{the_row}
+use Rattle.ts_arena.specs.contracts.boxed.BoxedArena.{the_row}
 use Rattle.arena_list.specs.declared.entry.Entry.{Entry}
 use Rattle.arena_list.specs.declared.list.ListSeat.{ListSeat}
 use Rattle.arena_list.specs.Rule.Founded.{Differ, slot, caller}

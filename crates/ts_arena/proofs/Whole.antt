@@ -298,6 +298,12 @@ module _ (a b : ArenaState) (who at : ℕ) (entered : IsEntered a who b at) wher
   parts_more : (e : Entry SerialState) → parts_of (record a { owners = a.owners ++ e ∷ [] }) ≡ (map (λ (x : Entry SerialState). x.part) a.owners ++ e.part ∷ []) ++ a.adopted
   parts_more e = ap (λ (l : List SerialState). l ++ a.adopted) (map-append (λ (x : Entry SerialState). x.part) a.owners (e ∷ []))
 
+  pub entered_life : b.life ≡ a.life
+  entered_life = as_before (λ (x : ArenaState). x.life ≡ a.life) refl (λ e _ _ _. refl)
+
+  pub entered_policy : b.policy ≡ a.policy
+  entered_policy = as_before (λ (x : ArenaState). x.policy ≡ a.policy) refl (λ e _ _ _. refl)
+
   pub entered_places : arena_places b ≡ arena_places a
   entered_places = as_before (λ (x : ArenaState). arena_places x ≡ arena_places a) refl
       (λ e none _ _. ap all_places (parts_more e) ∙ places_skip (map (λ (x : Entry SerialState). x.part) a.owners) a.adopted e.part none)

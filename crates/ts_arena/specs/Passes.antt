@@ -5,7 +5,7 @@ use lib.ListN.{get_elem?}
 use Rattle.arena_block.specs.declared.policy.Policy.{Policy}
 use Rattle.arena_block.specs.Policy.{IsValid}
 use Rattle.serial_arena.specs.Serial.{SerialState, used_of}
-use Rattle.serial_arena.specs.contracts.arena.SerialArena.{the_row}
+use Rattle.ts_arena.specs.contracts.boxed.BoxedArena.{the_row}
 use Rattle.life_ids.specs.Cache.{CacheState}
 use Rattle.arena_list.specs.declared.entry.Entry.{Entry}
 use Rattle.arena_list.specs.declared.list.ArenaList.{ArenaList}

@@ -6,6 +6,7 @@ ghost use Rattle.ts_arena.specs.Sums.{AreSmall};
 ghost use Rattle.ts_arena.specs.Arena.{arena_used, arena_allocated, arena_registered, used_at, allocated_at, registered_at, registered_of};
 
 use crate::adopted::Regions;
+use crate::boxed::BoxedArena;
 use arena_block::Policy;
 use arena_list::Entry;
 use arena_mem::Part;
@@ -21,7 +22,7 @@ pub struct Arena {
     pub(crate) life: u64,
     pub(crate) policy: Policy,
     // In the order in which the owners joined.
-    pub(crate) owners: Vec<Entry<SerialArena>>,
+    pub(crate) owners: Vec<Entry<BoxedArena>>,
     pub(crate) adopted: Regions,
 }
 
@@ -59,7 +60,7 @@ fn with_part(sums: Sums, part: &SerialArena) -> Sums
 }
 
 /// What the serial arenas of these owners have together.
-pub(crate) fn sums_by(owners: &[Entry<SerialArena>]) -> Sums
+pub(crate) fn sums_by(owners: &[Entry<BoxedArena>]) -> Sums
     ensures used { result.used ≡ sum_by used_at owners.now }
     ensures allocated { result.allocated ≡ sum_by allocated_at owners.now }
     ensures registered { result.registered ≡ sum_by registered_at owners.now }
@@ -71,7 +72,7 @@ pub(crate) fn sums_by(owners: &[Entry<SerialArena>]) -> Sums
         registered: 0,
     };
     for entry in owners {
-        sums = with_part(sums, &entry.part);
+        sums = with_part(sums, &entry.part.arena);
     }
     sums
 }

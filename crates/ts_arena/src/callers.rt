@@ -177,7 +177,7 @@ pub(crate) fn visit(
 }
 
 /// Places and writes in any memory.
-fn place_in<M: Memory>(mem: &mut M, bytes: u32) -> Result<(), MemFault>
+pub(crate) fn place_in<M: Memory>(mem: &mut M, bytes: u32) -> Result<(), MemFault>
     requires { IsPlaceable bytes }
     ensures key { M.key mem.new ≡ M.key mem.old }
 {

@@ -2,6 +2,7 @@
 ghost use Rattle.std.specs.Prelude.{◌≡◌};
 ghost use Rattle.serial_arena.specs.Serial.{SerialState};
 
+use crate::boxed::BoxedArena;
 use arena_list::Entry;
 use serial_arena::SerialArena;
 
@@ -23,10 +24,10 @@ impl Holder for SerialArena {
     }
 }
 
-impl Holder for Entry<SerialArena> {
+impl Holder for Entry<BoxedArena> {
     ghost part_of = { λ e. e.part };
 
     fn into_part(self) -> SerialArena {
-        self.part
+        self.part.into_arena()
     }
 }

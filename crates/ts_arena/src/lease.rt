@@ -9,11 +9,11 @@ ghost use Rattle.ts_arena.specs.Arena.{IsOwned};
 ghost use Rattle.ts_arena.specs.Passes.{SeatHas, caller_of, slot_of, steps_of, shown_to, HasPart, IsPassOf, FitsPass};
 ghost use Rattle.ts_arena.specs.Leases.{caller_in, steps_in, shown_in};
 
+use crate::boxed::{BoxedArena, boxed_arena_is_laid};
 use crate::pass::Pass;
 use crate::shared::Shared;
 use arena_list::ListSeat;
 use life_ids::ThreadCache;
-use serial_arena::{SerialArena, arena_is_laid};
 use std::marker::Model;
 
 /// A caller's serial arena, out of its slot: a memory that nobody else has. It must be spent by `leave`.
@@ -24,7 +24,7 @@ pub struct Lease<'s> {
     pub(crate) seat: ListSeat,
     pub(crate) slot: u32,
     pub(crate) cached: bool,
-    pub(crate) part: SerialArena,
+    pub(crate) part: BoxedArena,
 }
 
 impl<'s> Model for Lease<'s> {
@@ -78,7 +78,7 @@ impl Shared {
     }
 
     /// Takes the caller's serial arena out of its slot.
-    fn take(&self, seat: &mut ListSeat, slot: u32) -> SerialArena
+    fn take(&self, seat: &mut ListSeat, slot: u32) -> BoxedArena
         requires list { IsSeatOf self.now.list seat.old }
         requires own { mine (view seat.old) ≡ Some slot }
         requires part { (s : SerialState) × SeatHas seat.old s × IsOwned self.now.life self.now.policy slot (who (view seat.old)) s }
@@ -151,7 +151,7 @@ impl<'s> Lease<'s> {
             cached: _,
             part,
         } = self;
-        arena_is_laid(&part);
+        boxed_arena_is_laid(&part);
         shared.list.give_slot(&mut seat, slot, part);
         let life = shared.life;
         (Pass { seat, life }, ThreadCache::of(life, slot))

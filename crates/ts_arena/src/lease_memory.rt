@@ -23,30 +23,30 @@ impl<'s> Memory for Lease<'s> {
 
     #[inline(always)]
     fn place(&mut self, bytes: u32) -> Result<Place, MemFault> {
-        self.part.place(bytes)
+        self.part.arena.place(bytes)
     }
 
     fn read(&self, place: Place) -> &[u8] {
-        self.part.read(place)
+        self.part.arena.read(place)
     }
 
     fn write(&mut self, place: Place, start: u32, bytes: &[u8]) {
-        self.part.write(place, start, bytes);
+        self.part.arena.write(place, start, bytes);
     }
 
     fn copy_front(&mut self, from: Place, to: Place, bytes: u32) {
-        self.part.copy_front(from, to, bytes);
+        self.part.arena.copy_front(from, to, bytes);
     }
 
     fn keep(&mut self, bytes: Vec<u8>) -> Result<Buffer, (NoMemory, Vec<u8>)> {
-        self.part.keep(bytes)
+        self.part.arena.keep(bytes)
     }
 
     fn keep_copy(&mut self, bytes: &[u8]) -> Result<Buffer, NoMemory> {
-        self.part.keep_copy(bytes)
+        self.part.arena.keep_copy(bytes)
     }
 
     fn kept(&self, buffer: Buffer) -> &[u8] {
-        self.part.kept(buffer)
+        self.part.arena.kept(buffer)
     }
 }

@@ -4,7 +4,7 @@
 //! part is leased nobody else has it; a settled arena has each part as its pass left it last; an arena that is entered
 //! alone is one memory over all parts; `reset` and `end` tell each cleanup once.
 //!
-//! An example of use, whose calls the tests make:
+//! An example of use, whose calls the test `an_arena_is_shared_settled_entered_alone_and_reset` makes in this order:
 //!
 //! ```text
 //! let arena = Arena::new(alloc, Policy::profile(), ids.draw()?);
@@ -25,6 +25,7 @@
 mod adopted;
 mod adopting;
 mod arena;
+mod boxed;
 #[cfg(test)]
 mod callers;
 mod ending;

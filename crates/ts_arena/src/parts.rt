@@ -4,20 +4,22 @@ ghost use Rattle.arena_mem.specs.Places.{IsPlaceable, IsLive, bytes_at, NamesFul
 ghost use Rattle.serial_arena.specs.Serial.{IsSerial, places_of, blocks_of, place_in, next_placement, with_place, with_bytes, with_kept};
 ghost use Rattle.ts_arena.specs.Parts.{owner_at, region_at, owner_with};
 
+use crate::boxed::BoxedArena;
 use arena_list::Entry;
 use arena_mem::{Buffer, MemFault, Memory, NoMemory, Place};
 use serial_arena::{SerialArena, arena_is_laid};
 use std::mem::replace;
 
-pub(crate) fn part_of(owners: &[Entry<SerialArena>], at: usize) -> &SerialArena
+pub(crate) fn part_of(owners: &[Entry<BoxedArena>], at: usize) -> &SerialArena
     requires { at < length owners.now }
     ensures { result.now ≡ (owner_at owners.now at).part }
 {
-    &owners[at].part
+    let part = &owners[at].part;
+    &part.arena
 }
 
 pub(crate) fn place_for(
-    owners: &mut Vec<Entry<SerialArena>>,
+    owners: &mut Vec<Entry<BoxedArena>>,
     at: usize,
     bytes: u32,
 ) -> Result<Place, MemFault>
@@ -30,13 +32,13 @@ pub(crate) fn place_for(
     ensures serial { IsSerial (owner_at owners.new.items at).part }
 {
     let part = &mut owners[at].part;
-    let placed = part.place(bytes);
-    arena_is_laid(part);
+    let placed = part.arena.place(bytes);
+    arena_is_laid(&part.arena);
     placed
 }
 
 pub(crate) fn keep_for(
-    owners: &mut Vec<Entry<SerialArena>>,
+    owners: &mut Vec<Entry<BoxedArena>>,
     at: usize,
     bytes: Vec<u8>,
 ) -> Result<Buffer, (NoMemory, Vec<u8>)>
@@ -48,13 +50,13 @@ pub(crate) fn keep_for(
     ensures serial { IsSerial (owner_at owners.new.items at).part }
 {
     let part = &mut owners[at].part;
-    let kept = part.keep(bytes);
-    arena_is_laid(part);
+    let kept = part.arena.keep(bytes);
+    arena_is_laid(&part.arena);
     kept
 }
 
 pub(crate) fn keep_copy_for(
-    owners: &mut Vec<Entry<SerialArena>>,
+    owners: &mut Vec<Entry<BoxedArena>>,
     at: usize,
     bytes: &[u8],
 ) -> Result<Buffer, NoMemory>
@@ -65,13 +67,13 @@ pub(crate) fn keep_copy_for(
     ensures serial { IsSerial (owner_at owners.new.items at).part }
 {
     let part = &mut owners[at].part;
-    let kept = part.keep_copy(bytes);
-    arena_is_laid(part);
+    let kept = part.arena.keep_copy(bytes);
+    arena_is_laid(&part.arena);
     kept
 }
 
 pub(crate) fn write_for(
-    owners: &mut Vec<Entry<SerialArena>>,
+    owners: &mut Vec<Entry<BoxedArena>>,
     at: usize,
     place: Place,
     start: u32,
@@ -84,12 +86,12 @@ pub(crate) fn write_for(
     ensures serial { IsSerial (owner_at owners.new.items at).part }
 {
     let part = &mut owners[at].part;
-    part.write(place, start, bytes);
-    arena_is_laid(part);
+    part.arena.write(place, start, bytes);
+    arena_is_laid(&part.arena);
 }
 
 pub(crate) fn copy_for(
-    owners: &mut Vec<Entry<SerialArena>>,
+    owners: &mut Vec<Entry<BoxedArena>>,
     at: usize,
     from: Place,
     to: Place,
@@ -104,13 +106,13 @@ pub(crate) fn copy_for(
     ensures serial { IsSerial (owner_at owners.new.items at).part }
 {
     let part = &mut owners[at].part;
-    part.copy_front(from, to, bytes);
-    arena_is_laid(part);
+    part.arena.copy_front(from, to, bytes);
+    arena_is_laid(&part.arena);
 }
 
 /// Puts another serial arena in the place of one, and answers that one.
 pub(crate) fn exchange_for(
-    owners: &mut Vec<Entry<SerialArena>>,
+    owners: &mut Vec<Entry<BoxedArena>>,
     at: usize,
     part: SerialArena,
 ) -> SerialArena
@@ -118,7 +120,8 @@ pub(crate) fn exchange_for(
     ensures was { result ≡ (owner_at owners.old.items at).part }
     ensures now { owners.new.items ≡ owner_with owners.old.items at part }
 {
-    replace(&mut owners[at].part, part)
+    let held = &mut owners[at].part;
+    replace(&mut *held.arena, part)
 }
 
 pub(crate) fn write_in(

@@ -1,5 +1,5 @@
 //! An arena is shared among callers.
-ghost use Rattle.std.specs.Prelude.{◌≡◌, ◌≤◌, ◌<◌, ◌+◌, ◌^◌, IfOk, IfErr, IfSome, IfNone, true, false, length, map, vec_capacity, [], ◌++◌};
+ghost use Rattle.std.specs.Prelude.{◌≡◌, ◌≤◌, ◌<◌, ◌+◌, ◌^◌, IfOk, IfErr, OnOk, OnErr, IfSome, IfNone, true, false, length, map, vec_capacity, [], ◌++◌};
 ghost use mathlib.Core.Option.{some};
 ghost use lib.ListN.{get_elem?};
 ghost use Rattle.arena_block.specs.Policy.{IsValid};
@@ -10,20 +10,20 @@ ghost use Rattle.ts_arena.specs.Sharing.{asked_of, slots_with, IsLeastFree, IsRe
 ghost use Rattle.ts_arena.specs.Passes.{pass_of, IsSharedFrom, AreFirstPasses};
 
 use crate::arena::{Arena, sums_in};
+use crate::boxed::BoxedArena;
 use crate::faults::ShareFault;
 use crate::pass::Pass;
 use crate::shared::Shared;
 use arena_block::Policy;
 use arena_list::{ArenaList, Entry, ListSeat};
 use arena_mem::NoMemory;
-use serial_arena::SerialArena;
 use std::alloc::Global;
 
 /// How many slots there are.
 pub(crate) const SLOTS: u32 = 64;
 
 /// Whether the caller owns one of these.
-pub(crate) fn is_owner(owners: &[Entry<SerialArena>], who: u32) -> bool
+pub(crate) fn is_owner(owners: &[Entry<BoxedArena>], who: u32) -> bool
     ensures { result ≡ has (map caller owners.now) who }
 {
     for entry in owners {
@@ -35,7 +35,7 @@ pub(crate) fn is_owner(owners: &[Entry<SerialArena>], who: u32) -> bool
 }
 
 /// Whether one of these has the slot.
-fn has_slot(entries: &[Entry<SerialArena>], slot: u32) -> bool
+fn has_slot(entries: &[Entry<BoxedArena>], slot: u32) -> bool
     ensures { result ≡ has (map (λ e. e.slot) entries.now) slot }
 {
     for entry in entries {
@@ -75,7 +75,7 @@ fn first_repeat(callers: &[u32]) -> Option<(u32, u32)>
 }
 
 /// How many of the callers own nothing yet.
-fn count_asked(owners: &[Entry<SerialArena>], callers: &[u32]) -> u32
+fn count_asked(owners: &[Entry<BoxedArena>], callers: &[u32]) -> u32
     requires { length callers.now < 2 ^ 32 }
     ensures { result ≡ asked_of owners.now callers.now }
 {
@@ -89,7 +89,7 @@ fn count_asked(owners: &[Entry<SerialArena>], callers: &[u32]) -> u32
 }
 
 /// The least slot that neither an owner nor a spare has.
-fn least_free(owners: &[Entry<SerialArena>], spares: &[Entry<SerialArena>]) -> u32
+fn least_free(owners: &[Entry<BoxedArena>], spares: &[Entry<BoxedArena>]) -> u32
     requires { length owners.now + length spares.now < slot_count }
     ensures free { IsLeastFree (slots_with owners.now spares.now) result }
     ensures small { result < slot_count }
@@ -107,21 +107,22 @@ pub(crate) fn add_spare(
     alloc: Global,
     policy: Policy,
     life: u64,
-    owners: &[Entry<SerialArena>],
+    owners: &[Entry<BoxedArena>],
     who: u32,
-    spares: &mut Vec<Entry<SerialArena>>,
-)
+    spares: &mut Vec<Entry<BoxedArena>>,
+) -> Result<(), NoMemory>
     requires policy { IsValid policy }
     requires room { has (map caller owners.now) who ≡ false → (length owners.now + length spares.old.items < slot_count) × (length spares.old.items < vec_capacity spares.old) }
-    ensures owner { has (map caller owners.now) who ≡ true → spares.new.items ≡ spares.old.items }
-    ensures added { has (map caller owners.now) who ≡ false → AddsSpare policy life owners.now who spares.old.items spares.new.items }
+    ensures owner { OnOk result (has (map caller owners.now) who ≡ true → spares.new.items ≡ spares.old.items) }
+    ensures added { OnOk result (has (map caller owners.now) who ≡ false → AddsSpare policy life owners.now who spares.old.items spares.new.items) }
+    ensures unchanged { OnErr result (spares.new.items ≡ spares.old.items) }
     ensures capacity { vec_capacity spares.old ≤ vec_capacity spares.new }
 {
     if is_owner(owners, who) {
-        return;
+        return Ok(());
     }
     let slot = least_free(owners, spares);
-    let part = SerialArena::new(alloc, policy, who, life, slot);
+    let part = BoxedArena::empty(alloc, policy, who, life, slot)?;
     let spare = Entry {
         slot,
         caller: who,
@@ -130,6 +131,7 @@ pub(crate) fn add_spare(
     if spares.push(spare).is_err() {
         unreachable!();
     }
+    Ok(())
 }
 
 /// An entry with an empty serial arena for each caller that owns nothing yet.
@@ -137,9 +139,9 @@ fn make_spares(
     alloc: Global,
     policy: Policy,
     life: u64,
-    owners: &[Entry<SerialArena>],
+    owners: &[Entry<BoxedArena>],
     callers: &[u32],
-) -> Result<Vec<Entry<SerialArena>>, NoMemory>
+) -> Result<Vec<Entry<BoxedArena>>, NoMemory>
     requires policy { IsValid policy }
     requires owners { AreOwners life policy owners.now }
     requires can { CanShare owners.now callers.now }
@@ -148,7 +150,7 @@ fn make_spares(
 {
     let mut spares = Vec::with_capacity(alloc, SLOTS as usize)?;
     for who in callers {
-        add_spare(alloc, policy, life, owners, *who, &mut spares);
+        add_spare(alloc, policy, life, owners, *who, &mut spares)?;
     }
     Ok(spares)
 }

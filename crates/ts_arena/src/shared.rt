@@ -2,9 +2,9 @@
 ghost use Rattle.std.specs.Prelude.{◌≡◌, ◌≤◌};
 
 use crate::adopted::Regions;
+use crate::boxed::BoxedArena;
 use arena_block::Policy;
 use arena_list::ArenaList;
-use serial_arena::SerialArena;
 use std::marker::Model;
 
 /// An arena that many callers share. It may be lent to threads; each caller enters it with a pass.
@@ -14,7 +14,7 @@ use std::marker::Model;
 pub struct Shared {
     pub(crate) life: u64,
     pub(crate) policy: Policy,
-    pub(crate) list: ArenaList<SerialArena>,
+    pub(crate) list: ArenaList<BoxedArena>,
     pub(crate) adopted: Regions,
     // How many passes were made, and what the adopted regions use.
     pub(crate) made: u32,

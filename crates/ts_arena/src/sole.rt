@@ -12,14 +12,14 @@ ghost use Rattle.ts_arena.specs.Parts.{IsSlotTable, owner_at};
 ghost use Rattle.ts_arena.specs.Sole.{OwnsNothing, IsEntered, CanEnter, RefusesSole, arena_places, arena_buffers, arena_blocks};
 
 use crate::arena::Arena;
+use crate::boxed::BoxedArena;
 use crate::faults::SoleFault;
 use crate::share::{SLOTS, add_spare};
 use crate::sole_memory::SoleMemory;
 use arena_list::Entry;
-use serial_arena::SerialArena;
 
 /// Where the caller stands among the owners.
-fn owner_place(owners: &[Entry<SerialArena>], who: u32) -> Option<usize>
+fn owner_place(owners: &[Entry<BoxedArena>], who: u32) -> Option<usize>
     ensures there { IfSome result (λ at. (at < length owners.now) × ((owner_at owners.now at).caller ≡ who)) }
     ensures none { IfNone result (OwnsNothing owners.now who) }
 {
@@ -32,7 +32,7 @@ fn owner_place(owners: &[Entry<SerialArena>], who: u32) -> Option<usize>
 }
 
 /// Each owner's place by its slot.
-fn slot_table(owners: &[Entry<SerialArena>]) -> [u8; 64]
+fn slot_table(owners: &[Entry<BoxedArena>]) -> [u8; 64]
     requires slots { Differ (map slot owners.now) }
     requires small { (i : ℕ) (e : Entry SerialState) → get_elem? owners.now i ≡ some e → e.slot < slot_count }
     ensures { IsSlotTable result owners.now }
@@ -81,7 +81,10 @@ impl Arena {
             return Err(SoleFault::NoMemory);
         }
         let alloc = *self.owners.allocator();
-        add_spare(alloc, self.policy, self.life, &[], caller, &mut self.owners);
+        let added = add_spare(alloc, self.policy, self.life, &[], caller, &mut self.owners);
+        let Ok(()) = added else {
+            return Err(SoleFault::NoMemory);
+        };
         Ok(owners as usize)
     }
 
@@ -96,6 +99,8 @@ impl Arena {
     pub fn enter_sole<'a>(&'a mut self, caller: u32) -> Result<SoleMemory<'a>, SoleFault>
         ensures* unchanged { sem 𝓛 (RestsIfErr the_row self.entry (λ m. m.arena.ghost_name) result (λ last. last ≡ self.old)) }
         ensures same_arena { IfOk result (λ m. m.arena.ghost_name ≡ self.entry.ghost_name) }
+        ensures life { IfOk result (λ m. m.arena.now.life ≡ self.old.life) }
+        ensures policy { IfOk result (λ m. m.arena.now.policy ≡ self.old.policy) }
         ensures refused { IfErr result (RefusesSole self.old.owners caller) }
         ensures can { OnOk result (CanEnter self.old.owners caller) }
         ensures entered { IfOk result (λ m. IsEntered self.old caller m.arena.now m.at) }

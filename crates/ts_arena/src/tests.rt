@@ -5,7 +5,7 @@ use crate::callers::{
     adopt_first, copy_alone, enter_over_two_lives, fill_blocks, place_alone, put_pass, settle_one,
     settle_with, settle_with_foreign, share_among, share_with_one, take_pass, used_by_last, visit,
 };
-use crate::workers::{ROUNDS, seated, stood_up, work_all};
+use crate::workers::{ROUNDS, seated, stood_up, visit_with_help, work_all};
 use crate::{Arena, LifeRecord, SettleFault, ShareFault, SoleFault};
 use arena_block::Policy;
 use arena_mem::Memory;
@@ -176,6 +176,38 @@ fn eight_callers_enter_a_thousand_times_each(rt: HostRuntime) -> Result<(), Fail
         (used, arena.space_used(), arena.owners()),
         (wanted, wanted, 8)
     );
+    Ok(())
+}
+
+#[test]
+fn another_thread_places_in_a_lease(rt: HostRuntime) -> Result<(), Fail> {
+    let (shared, pass) = share_with_one(new_arena(rt.alloc(), 5))?;
+    let (pass, _) = visit_with_help(&rt, &shared, pass, ThreadCache::empty());
+    let arena = settle_one(shared, pass, rt.alloc())?;
+    assert_eq!(rt; arena.space_used(), 32);
+    Ok(())
+}
+
+// The example at the head of the crate.
+#[test]
+fn an_arena_is_shared_settled_entered_alone_and_reset(rt: HostRuntime) -> Result<(), Fail> {
+    let mut ids = IdSource::new(rt.alloc(), 1)?;
+    let life = ids.draw()?;
+    let (shared, pass) = share_with_one(Arena::new(rt.alloc(), Policy::profile(), life))?;
+    let (pass, _, is_placed, cached) = visit(&shared, pass, ThreadCache::empty(), 8);
+    assert_eq!(rt; (is_placed, cached), (true, false));
+    let mut arena = settle_one(shared, pass, rt.alloc())?;
+    place_alone(&mut arena, 7, 8)?;
+    let record = arena.reset(&mut ids, &mut SilentWatch)?;
+    let wanted = LifeRecord {
+        life: 1,
+        serials: 2,
+        adopted: 0,
+        registered: 0,
+        cleaned: 0,
+        used: 16,
+    };
+    assert_eq!(rt; (record, arena.life(), arena.owners()), (wanted, 2, 0));
     Ok(())
 }
 

@@ -4,8 +4,8 @@ ghost use Rattle.std.specs.Thread.{IsSync};
 ghost use Rattle.ts_arena.specs.Passes.{IsPassOf, AreAllOf, FitsPass};
 ghost use Rattle.ts_arena.specs.Ready.{IsReady, AreReady};
 
-use crate::callers::{GaveUp, put_pass, take_pass, visit};
-use crate::{Pass, Shared};
+use crate::callers::{GaveUp, place_in, put_pass, take_pass, visit};
+use crate::{Lease, Pass, Shared};
 use life_ids::ThreadCache;
 use std::alloc::Global;
 use std::mem::replace;
@@ -109,6 +109,38 @@ fn work_both<R: Threads + Sync>(
             ensures { AreReady shared.entry.now (length right.entry.now) right.exit.now }
         { work_all(rt, shared, right) },
     );
+}
+
+/// Places 32 bytes in a lease on another thread.
+fn place_elsewhere<R: Threads>(rt: &R, lease: &mut Lease<'_>)
+    ensures { lease.new.shared ≡ lease.old.shared }
+{
+    join_mut(
+        rt,
+        &mut ||
+            ensures { lease.exit.now.shared ≡ lease.entry.now.shared }
+        {
+            let _ = place_in(lease, 32);
+        },
+        &mut || {},
+    );
+}
+
+/// Enters, has another thread place, and leaves.
+pub(crate) fn visit_with_help<R: Threads>(
+    rt: &R,
+    shared: &Shared,
+    pass: Pass,
+    cache: ThreadCache,
+) -> (Pass, ThreadCache)
+    requires made { IsPassOf shared.now pass }
+    requires fits { FitsPass cache pass }
+    ensures made { IsPassOf shared.now result.0 }
+    ensures fits { FitsPass result.1 result.0 }
+{
+    let mut lease = shared.enter(pass, cache);
+    place_elsewhere(rt, &mut lease);
+    lease.leave()
 }
 
 /// The passes with an empty cache each, in the other order.

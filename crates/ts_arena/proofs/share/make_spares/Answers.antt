@@ -25,12 +25,12 @@ pub loop-who-preserved : goal.loop-who-preserved
 loop-who-preserved c = let os = c.args.owners.now in let cs = c.args.callers.now in let i = c.loop-who.who-index in let o = c.loop-who.invariant in let low = c.loop-who-test.true in
     let p = c.args.policy in let l = c.args.life in let was = c.loop-who.spares.items in let now = c.add_spare.new.spares.items in let who = get_or cs i 0 in (
       ⊎_elim
-          (λ t. spares_same p l os was now (take i cs) (take (i + 1) cs) (without_else os cs i low t) (c.add_spare.ensures.owner t) o.0)
-          (λ t. spares_then p l os was now (take i cs) (take (i + 1) cs) who c.requires.policy (c.add_spare.ensures.added t) (without_then os cs i low t) o.0)
+          (λ t. spares_same p l os was now (take i cs) (take (i + 1) cs) (without_else os cs i low t) (c.in_ok-add_spare.ensures.owner t) o.0)
+          (λ t. spares_then p l os was now (take i cs) (take (i + 1) cs) who c.requires.policy (c.in_ok-add_spare.ensures.added t) (without_then os cs i low t) o.0)
           (cases_Bool (has (map caller os) who)),
       ⊎_elim
-          (λ t. subst (λ (xs : Owners). AreHeld l p (os ++ xs)) (sym (c.add_spare.ensures.owner t)) o.1)
-          (λ t. held_then p l os was now (take i cs) (take (i + 1) cs) who c.requires.policy (c.add_spare.ensures.added t) o.1)
+          (λ t. subst (λ (xs : Owners). AreHeld l p (os ++ xs)) (sym (c.in_ok-add_spare.ensures.owner t)) o.1)
+          (λ t. held_then p l os was now (take i cs) (take (i + 1) cs) who c.requires.policy (c.in_ok-add_spare.ensures.added t) o.1)
           (cases_Bool (has (map caller os) who)),
       (let a = o.2 in let b = c.add_spare.ensures.capacity in omega arith),
     )

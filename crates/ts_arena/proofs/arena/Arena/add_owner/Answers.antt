@@ -15,7 +15,7 @@ pub invariant_of-self-2 : goal.invariant_of-self-2
 invariant_of-self-2 c = let i = c.self.inside in let o = c.self.invariant in let nothing = subst (λ (a : ArenaState). OwnsNothing a.owners c.args.caller) (sym c.self.view_is) c.requires in record {
   born = o.born;
   policy = o.policy;
-  owners = owners_more i.life i.policy i.owners.items c.add_spare.new.spares.items c.args.caller o.policy o.owners nothing
-      (subst (λ (es : Owners). AddsSpare i.policy i.life [] c.args.caller es c.add_spare.new.spares.items) c.reserve.ensures.items (c.add_spare.ensures.added refl));
+  owners = owners_more i.life i.policy i.owners.items c.add_spare-added.new.spares.items c.args.caller o.policy o.owners nothing
+      (subst (λ (es : Owners). AddsSpare i.policy i.life [] c.args.caller es c.add_spare-added.new.spares.items) c.reserve.ensures.items (c.in-Ok.ensures.added refl));
   adopted = o.adopted;
 }

@@ -5,7 +5,7 @@ use Rattle.arena_list.specs.declared.list.ListSeat.{ListSeat}
 use Rattle.arena_list.specs.Calls.Seats.{wards_of, founding_of, view}
 use Rattle.arena_list.specs.Rule.Views.{shown}
 use Rattle.arena_list.specs.Closing.Closed.{used_sum, AreAll, AreApart, AreLinked}
-use Rattle.serial_arena.specs.contracts.arena.SerialArena.{the_row}
+use Rattle.ts_arena.specs.contracts.boxed.BoxedArena.{the_row}
 use Rattle.ts_arena.specs.Passes.{SharedState, serial_meter, made_by, pass_of}
 use Rattle.ts_arena.specs.Settling.{AreOwn, AreOfLife, IsSettledFrom}
 use Rattle.arena_list.proofs.Words.Few.{len_map}
