@@ -41,6 +41,12 @@ pub use strings::{bytes_in, get_bytes, set_bytes, slot_at};
 pub use unknown::{append_unknown, unknown_count, unknown_element};
 
 #[cfg(test)]
+mod hand_made;
+#[cfg(test)]
+mod kind_tests;
+#[cfg(test)]
 mod list_tests;
+#[cfg(test)]
+mod string_tests;
 #[cfg(test)]
 mod tests;
