@@ -22,6 +22,7 @@ pub mod ListLaws
 pub mod UnknownLaws
 pub mod NestedLists
 pub mod OneShape
+pub mod Cases
 mod Rows
 pub mod NodeFields
 pub mod ListCalls

@@ -23,7 +23,8 @@ use Rattle.msg_layout.specs.Layout.{Layout, entry_among, word_of}
 use Rattle.msg_layout.specs.Sound.{FitsIn, MarkWithin, MarksApart, OneWord, IsSound}
 use Rattle.dyn_message.specs.Slots.{part, word, IsZero, slot_in, told_in, told_by, bit_in, MayBeSet, MayBeUnset}
 use Rattle.dyn_message.specs.Stands.{IsSingle}
-use Rattle.dyn_message.specs.Writes.{with_bit, with_word, with_zeros, is_word_at, zeroed, without_other, marked_by, marked, unmarked_by, taken, put}
+use Rattle.msg_layout.specs.Words.{is_word_at}
+use Rattle.dyn_message.specs.Writes.{with_bit, with_word, with_zeros, zeroed, without_other, marked_by, marked, unmarked_by, taken, put}
 use Rattle.dyn_message.proofs.Parts.{splice_length, part_here, part_beside, same_byte, byte_of_part}
 use Rattle.dyn_message.proofs.Entries.{among_all, found_number, found_fits, Suits, IsApart, ApartFrom, apart_from}
 use Rattle.dyn_message.proofs.Focus.{Becomes}

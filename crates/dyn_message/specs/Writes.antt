@@ -10,6 +10,7 @@ use Rattle.msg_layout.specs.declared.entry.Mark.{Mark}
 use Rattle.msg_layout.specs.declared.entry.Mark.TheVariants as marks
 use Rattle.msg_layout.specs.Slots.{slot_bytes}
 use Rattle.msg_layout.specs.Layout.{entry_among}
+use Rattle.msg_layout.specs.Words.{is_word_at}
 use Rattle.dyn_message.specs.Slots.{word}
 
 -- the bytes at one live place became what `change` makes of them, and nothing else changed
@@ -35,11 +36,6 @@ with_word at n bytes = splice at (to_le_bytes w32 n) bytes
 
 abbrev pub with_zeros : Entry → List ℕ → List ℕ
 with_zeros entry bytes = splice entry.slot (replicate (slot_bytes entry.field) 0) bytes
-
--- the mark is the word at this place
-abbrev pub is_word_at : ℕ → Mark → Bool
-is_word_at at (marks.Word there) = there == at
-is_word_at at _ = false
 
 -- the slot of another field than the one with this number is zeroed, where its mark is the word at this place
 abbrev pub zeroed : ℕ → ℕ → Option Entry → List ℕ → List ℕ

@@ -4,9 +4,10 @@ ghost use Rattle.arena_mem.specs.Places.{IsLive, splice};
 ghost use Rattle.pb_schema.specs.Kinds.{value_type_of, slot_of};
 ghost use Rattle.pb_schema.specs.Fitted.{IsPatternOf};
 ghost use Rattle.msg_layout.specs.Layout.{entry_among};
+ghost use Rattle.msg_layout.specs.Words.{is_word_at};
 ghost use Rattle.msg_layout.specs.Sound.{IsSound};
 ghost use Rattle.msg_layout.specs.Slots.{slot_bytes};
-ghost use Rattle.dyn_message.specs.Writes.{Rewritten, is_word_at, marked, number_bytes, taken, with_bit, with_word, with_zeros, without_other};
+ghost use Rattle.dyn_message.specs.Writes.{Rewritten, marked, number_bytes, taken, with_bit, with_word, with_zeros, without_other};
 
 use crate::bytes::word_at;
 use arena_mem::{Memory, Place};
@@ -121,8 +122,8 @@ fn zero_slot<M: Memory>(mem: &mut M, place: Place, entry: Entry)
     );
 }
 
-// Whether the mark is the word at this place.
-fn is_word_at(mark: Mark, at: u32) -> bool
+/// Whether the mark is the word at this place.
+pub fn is_word_at(mark: Mark, at: u32) -> bool
     ensures { result ≡ is_word_at at mark }
 {
     match mark {

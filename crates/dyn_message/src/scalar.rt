@@ -1,15 +1,13 @@
 // Numbers of messages.
-ghost use Rattle.std.specs.Prelude.{◌≡◌, ◌≤◌, ◌<◌, ◌+◌, ◌∷◌, ◌&&◌, [], false, ℕ, List, length, map, MatchOption, All};
+ghost use Rattle.std.specs.Prelude.{◌≡◌, ◌≤◌, ◌<◌, ◌+◌, ◌∷◌, [], ℕ, List, length, map, MatchOption};
 ghost use Rattle.std.specs.FinMap as fin;
 ghost use Rattle.arena_mem.specs.Places.{used};
 ghost use Rattle.pb_schema.specs.Tree.{Shape, Nothing, One, Number};
 ghost use Rattle.pb_schema.specs.Kinds.{value_type_of, slot_of};
 ghost use Rattle.pb_schema.specs.HeldAt.{held_at, with_held};
 ghost use Rattle.dyn_message.specs.Feet.{Foot, InPlace};
-ghost use Rattle.pb_schema.specs.Cards.{is_member};
-ghost use Rattle.msg_layout.specs.declared.entry.Entry.{Entry};
-ghost use Rattle.msg_layout.specs.Sound.{MarkWithin};
-ghost use Rattle.dyn_message.specs.Slots.{part, number_in, set_by, told_in};
+ghost use Rattle.msg_layout.specs.Sound.{Beside, EachTwo};
+ghost use Rattle.dyn_message.specs.Slots.{part, number_in};
 ghost use Rattle.dyn_message.specs.Stands.{Stands};
 ghost use Rattle.dyn_message.specs.Changes.{Changes, NowStands};
 ghost use Rattle.dyn_message.specs.Fields.{IsMessageIn, HasNumber, IsNumberType, first_set, TakesNumber, number_put, case_in};
@@ -17,11 +15,11 @@ ghost use Rattle.dyn_message.specs.Fields.{IsMessageIn, HasNumber, IsNumberType,
 use crate::bytes::{long_at, word_at};
 use crate::fields::{entry_in, is_set, record_is_there};
 use crate::msg_ref::MsgRef;
-use crate::rewrite::{mark_set, set_number};
+use crate::rewrite::{is_word_at, mark_set, set_number};
 use arena_mem::Memory;
-use msg_layout::tables::Layouts;
-use msg_layout::{Entry, single_bytes};
-use pb_schema::{Card, Kind};
+use msg_layout::single_bytes;
+use msg_layout::tables::{Layouts, TypeLayout};
+use pb_schema::Kind;
 
 /// The number that the message holds at this field, as its bit pattern; nothing where it holds none.
 #[inline]
@@ -68,34 +66,27 @@ pub fn case_of<M: Memory>(mem: &M, types: &Layouts, msg: MsgRef, oneof: u32) -> 
         → result ≡ case_in types.now msg.type_no oneof t }
 {
     record_is_there(mem, types, msg);
-    first_set(
+    set_member(
         mem.read(msg.place),
-        types.of_type(msg.type_no).entries(),
+        types.of_type(msg.type_no),
         oneof,
     )
 }
 
-// The number of the first member of the oneof that is set, or 0.
-fn first_set(bytes: &[u8], entries: &[Entry], oneof: u32) -> u32
-    requires { All (λ (entry : Entry). MarkWithin (length bytes.now) entry.mark) entries.now }
-    ensures { result ≡ first_set oneof bytes.now entries.now }
+// The number of the member of the oneof that is set, or 0. The oneof's word tells a number, which counts where a member
+// has it.
+fn set_member(bytes: &[u8], layout: &TypeLayout, oneof: u32) -> u32
+    requires within { layout.now.unknown ≤ length bytes.now }
+    requires apart { EachTwo Beside layout.now.entries }
+    ensures { result ≡ first_set oneof bytes.now layout.now.entries }
 {
-    for entry in entries {
-        if is_set_member(bytes, *entry, oneof) {
-            return entry.field.number;
-        }
-    }
-    0
-}
-
-// Whether the field is a member of this oneof and is set.
-fn is_set_member(bytes: &[u8], entry: Entry, oneof: u32) -> bool
-    requires { MarkWithin (length bytes.now) entry.mark }
-    ensures { result ≡ is_member oneof entry.field.card && set_by (told_in entry bytes.now) false }
-{
-    match entry.field.card {
-        Card::Member(own) => own == oneof && is_set(bytes, entry, false),
-        _ => false,
+    let Some(at) = layout.word_of(oneof) else {
+        return 0;
+    };
+    let number = word_at(bytes, at);
+    match layout.find(number) {
+        Some(entry) if is_word_at(entry.mark, at) => number,
+        _ => 0,
     }
 }
 

@@ -2,5 +2,6 @@ pub mod SlotLaws
 pub mod SoundLaws
 pub mod LayoutLaws
 pub mod FindLaws
+pub mod WordLaws
 mod Sizes
-mod FarFields
+pub mod FarFields

@@ -2,3 +2,4 @@ pub mod Slots
 pub mod Layout
 pub mod Sound
 pub mod Find
+pub mod Words

@@ -47,7 +47,8 @@ fn layout_of_type(alloc: Global, ty: &MessageType) -> Result<TypeLayout, NoMemor
     let front = front_bytes(ty);
     let entries = entries_of(alloc, ty, front)?;
     let near = near_table(alloc, entries.as_slice())?;
-    Ok(TypeLayout::of(entries, near, front, round8(slots_start(ty, front, 0))))
+    let size = round8(slots_start(ty, front, 0));
+    Ok(TypeLayout::of(entries, near, front, size, bit_bytes(ty), ty.oneofs))
 }
 
 // The entries of a type's fields. The slots of each size are handed out one after the other.

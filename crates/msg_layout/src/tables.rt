@@ -1,8 +1,9 @@
 //! The layouts of all types of a schema.
-ghost use Rattle.std.specs.Prelude.{◌≡◌, ◌<◌, length, map};
+ghost use Rattle.std.specs.Prelude.{◌≡◌, ◌<◌, length, map, MatchOption};
 ghost use Rattle.pb_schema.specs.Lawful.{Lawful};
 ghost use Rattle.msg_layout.specs.Layout.{entry_among, entry_of, layout_of, layout_of_type};
 ghost use Rattle.msg_layout.specs.Find.{AreAscending, Tells};
+ghost use Rattle.msg_layout.specs.Words.{HasNoMember, HasWords, IsWordOf};
 
 use crate::entry::Entry;
 use crate::find::entry_by_number;
@@ -18,23 +19,36 @@ pub struct TypeLayout {
     near: Vec<u16>,
     unknown: u32,
     size: u32,
+    // Where the words of the oneofs begin, and how many there are.
+    words: u32,
+    oneofs: u32,
 }
 
 impl Model for TypeLayout {
     ghost use Rattle.msg_layout.specs.Layout.{Layout};
     ghost use Rattle.msg_layout.specs.Find.{AreAscending, Tells};
+    ghost use Rattle.msg_layout.specs.Words.{HasWords};
 
     ghost Value = { Layout };
 
     ghost view = { λ t. record { entries = t.entries.items; unknown = t.unknown; size = t.size } };
 
-    ghost invariant = { λ t. AreAscending t.entries.items × Tells t.entries.items t.near.items t.entries.items };
+    ghost invariant = { λ t. AreAscending t.entries.items × Tells t.entries.items t.near.items t.entries.items
+        × HasWords t.words t.oneofs t.unknown t.entries.items };
 }
 
 impl TypeLayout {
-    pub(crate) fn of(entries: Vec<Entry>, near: Vec<u16>, unknown: u32, size: u32) -> TypeLayout
+    pub(crate) fn of(
+        entries: Vec<Entry>,
+        near: Vec<u16>,
+        unknown: u32,
+        size: u32,
+        words: u32,
+        oneofs: u32,
+    ) -> TypeLayout
         requires ascending { AreAscending entries.items }
         requires near { Tells entries.items near.items entries.items }
+        requires words { HasWords words oneofs unknown entries.items }
         ensures { result ≡ record { entries = entries.items; unknown = unknown; size = size } }
     {
         TypeLayout {
@@ -42,6 +56,8 @@ impl TypeLayout {
             near,
             unknown,
             size,
+            words,
+            oneofs,
         }
     }
 
@@ -58,6 +74,18 @@ impl TypeLayout {
         ensures { result ≡ entry_among self.now.entries number }
     {
         entry_by_number(self.entries.as_slice(), self.near.as_slice(), number)
+    }
+
+    /// The offset of the word of four bytes that tells which member of this oneof is set; none where the type has no
+    /// such oneof, and so no member of it.
+    pub fn word_of(&self, oneof: u32) -> Option<u32>
+        ensures { MatchOption result (HasNoMember self.now oneof) (IsWordOf self.now oneof) }
+    {
+        if oneof < self.oneofs {
+            Some(self.words + 4 * oneof)
+        } else {
+            None
+        }
     }
 
     /// The offset of the slot of the unknown bytes.

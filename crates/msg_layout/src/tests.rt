@@ -17,6 +17,8 @@ fn built_in_types_have_these_records(rt: HostRuntime) -> Result<(), Fail> {
     assert_eq!(rt; made.record_size(1), 192);
     let node = made.of_type(1);
     assert_eq!(rt; node.unknown(), 8);
+    assert_eq!(rt; node.word_of(0), Some(0));
+    assert_eq!(rt; node.word_of(1), None);
     // Name, count, child, mark, blob, next, word and node.
     let slots = [32, 184, 56, 80, 104, 152, 128, 168];
     assert_eq!(rt; node.entries().len(), slots.len());

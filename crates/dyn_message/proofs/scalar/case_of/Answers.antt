@@ -6,5 +6,5 @@ use Rattle.dyn_message.proofs.scalar.case_of.Goals as goal
 
 pub returns : goal.returns
 returns g c = λ t feet st.
-    c.first_set.ensures ∙ ap (λ es. first_set c.args.oneof c.read.result.now es) (c.entries.ensures ∙ ap (λ (l : Layout). l.entries) c.of_type.ensures)
+    c.set_member.ensures ∙ ap (λ (l : Layout). first_set c.args.oneof c.read.result.now l.entries) c.of_type.ensures
     ∙ case_opened c.args.types.now (g.M.Memory.places c.args.mem.now) (g.M.Memory.buffers c.args.mem.now) c.args.msg c.args.oneof c.read.result.now t feet st c.read.ensures.value
