@@ -25,4 +25,3 @@ pub mod OneShape
 pub mod Cases
 mod Rows
 pub mod NodeFields
-pub mod ListCalls

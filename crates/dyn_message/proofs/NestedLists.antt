@@ -1,11 +1,11 @@
 -- A message in a list, opened: what it stands on, and the list with that message changed.
-use Rattle.std.proofs.Common.{◌≡◌, ◌⊎◌, ◌+◌, ◌*◌, ◌≤◌, ◌<◌, ℕ, zero, suc, Bool, true, false, cond, length, take, drop, List, [], ◌∷◌, ◌++◌, Option, None, Some, true≢false, refl, sym, ap, ◌∙◌, subst, inl, inr, ⊎_elim, drop-drop, arith}
+use Rattle.std.proofs.Common.{◌≡◌, ◌⊎◌, ◌+◌, ◌*◌, ◌≤◌, ◌<◌, ℕ, zero, suc, cond, length, take, drop, List, [], ◌∷◌, ◌++◌, Some, refl, sym, ap, ◌∙◌, subst, inl, inr, ⊎_elim, drop-drop, arith}
 use Rattle.std.specs.Prelude.{IsSome, slice_get}
 use Rattle.std.specs.Option.{option_map}
-use Rattle.std.proofs.lemmas.Option.{none-some, same_Some}
+use Rattle.std.proofs.lemmas.Option.{same_Some}
 use Rattle.std.specs.FinMap as map
 use Rattle.arena_mem.specs.declared.place.Place.{Place}
-use Rattle.arena_mem.specs.Places.{Places, Buffers, IsLive, splice}
+use Rattle.arena_mem.specs.Places.{Places, Buffers, splice}
 use Rattle.pb_schema.specs.declared.schema.Schema.{Schema}
 use Rattle.pb_schema.specs.Lawful.{Lawful}
 use Rattle.pb_schema.specs.Kinds.{ValueType, Scalar, Characters, Octets, Nested, value_type_of, slot_of}
@@ -17,18 +17,17 @@ use Rattle.msg_layout.specs.declared.entry.Entry.{Entry}
 use Rattle.msg_layout.specs.Slots.{slot_bytes, array_slot}
 use Rattle.msg_layout.specs.Layout.{layout_of, entry_of}
 use Rattle.dyn_message.specs.declared.msg_ref.MsgRef.{MsgRef}
-use Rattle.dyn_message.specs.Feet.{Foot, InPlace, InBuffer, times, IsAmong, AreThere, Once, SameAt, KeepsOthers, OldOrFresh, Split, foot_bytes}
+use Rattle.dyn_message.specs.Feet.{Foot, InPlace, times, IsAmong, AreThere, Once, KeepsOthers, OldOrFresh, foot_bytes}
 use Rattle.dyn_message.specs.Slots.{part, word, place_in, slot_in, told_in, MayBeSet}
-use Rattle.dyn_message.specs.Arrays.{IsArray, HoldsArray, NoElements, Elements, IsLeastRoom}
+use Rattle.dyn_message.specs.Arrays.{IsArray, HoldsArray, Elements, IsLeastRoom}
 use Rattle.dyn_message.specs.Stands.{IsList, IsLink, HoldsNumber, ValueStands, ValuesStand, MessageStands, Stands}
 use Rattle.dyn_message.specs.Fields.{IsMessageType}
-use Rattle.dyn_message.specs.Links.{StandsWith}
-use Rattle.dyn_message.specs.Lists.{elements_at, count_at, replaced_at, with_element, HasElement, ListsMessage}
+use Rattle.dyn_message.specs.Lists.{elements_at, count_at, replaced_at, HasElement, ListsMessage}
 use Rattle.dyn_message.proofs.Counting.{times_join, times_first, times_parts}
 use Rattle.dyn_message.proofs.Entries.{Suits, among_all, all_suit, fields_laid}
 use Rattle.dyn_message.proofs.Focus.{fields_in, SameBeyond}
 use Rattle.dyn_message.proofs.SameBytes.{value_same, values_same}
-use Rattle.dyn_message.proofs.There.{message_there, value_there}
+use Rattle.dyn_message.proofs.There.{message_there}
 use Rattle.dyn_message.proofs.Rewrites.{put_again, shares}
 use Rattle.dyn_message.proofs.Messages.{MessageFocus, sound_of, sound, tidy, some_value, focus_message, once_after}
 use Rattle.dyn_message.proofs.Growing.{elements_of, room_fits}

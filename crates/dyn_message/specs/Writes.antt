@@ -1,5 +1,5 @@
 -- What writes make of a record's bytes. Callers need none of these words: they see what a message stands for.
-use Rattle.std.specs.Prelude.{◌≡◌, ◌*◌, ◌/◌, ◌%◌, ◌^◌, ◌==◌, ◌&&◌, not, ℕ, Bool, false, List, [], ◌∷◌, ◌++◌, drop, replicate, Option, None, Some, slice_index, bit_or, if◌then◌else◌}
+use Rattle.std.specs.Prelude.{◌≡◌, ◌*◌, ◌/◌, ◌%◌, ◌^◌, ◌==◌, ◌&&◌, not, ℕ, List, [], ◌∷◌, ◌++◌, drop, replicate, Option, None, Some, slice_index, bit_or, if◌then◌else◌}
 use Rattle.std.specs.Int.{w32, to_le_bytes, bytes_low_first}
 use Rattle.std.specs.Option.{option_map}
 use Rattle.std.specs.FinMap as map

@@ -66,11 +66,7 @@ pub fn case_of<M: Memory>(mem: &M, types: &Layouts, msg: MsgRef, oneof: u32) -> 
         → result ≡ case_in types.now msg.type_no oneof t }
 {
     record_is_there(mem, types, msg);
-    set_member(
-        mem.read(msg.place),
-        types.of_type(msg.type_no),
-        oneof,
-    )
+    set_member(mem.read(msg.place), types.of_type(msg.type_no), oneof)
 }
 
 // The number of the member of the oneof that is set, or 0. The oneof's word tells a number, which counts where a member
@@ -85,8 +81,14 @@ fn set_member(bytes: &[u8], layout: &TypeLayout, oneof: u32) -> u32
     };
     let number = word_at(bytes, at);
     match layout.find(number) {
-        Some(entry) if is_word_at(entry.mark, at) => number,
-        _ => 0,
+        Some(entry) => {
+            if is_word_at(entry.mark, at) {
+                number
+            } else {
+                0
+            }
+        }
+        None => 0,
     }
 }
 

@@ -1,9 +1,9 @@
-use Rattle.std.proofs.Common.{◌≡◌, ℕ, List, [], ◌∷◌, sym, subst}
+use Rattle.std.proofs.Common.{◌≡◌, ℕ, List, [], ◌∷◌, ◌∙◌, sym, subst}
 use Rattle.pb_schema.specs.declared.kind.Card.{Card}
 use Rattle.pb_schema.specs.declared.kind.FieldType.{FieldType}
 use Rattle.pb_schema.specs.declared.kind.Kind.{Kind}
 use Rattle.pb_schema.specs.declared.kind.Kind.TheVariants as kinds
-use Rattle.pb_schema.specs.Kinds.{ValueType}
+use Rattle.pb_schema.specs.Kinds.{ValueType, value_type_of}
 use Rattle.pb_schema.specs.Lawful.{CardAllowed, FieldsAllowed}
 use Rattle.dyn_message.specs.Fields.{IsNumberType}
 use Rattle.dyn_message.proofs.hand_made.numbers.Goals as goal
@@ -20,10 +20,11 @@ listed card =
 -- each of them is allowed where numbers are
 all_allowed : (card : Card) → ((type : ValueType) → IsNumberType type → CardAllowed 0 type card) → FieldsAllowed 3 0 (listed card)
 all_allowed card each =
-    (tt, each _ tt, (tt, each _ tt, (tt, each _ tt, (tt, each _ tt, (tt, each _ tt, (tt, each _ tt, (tt, each _ tt, (tt, each _ tt, (tt, each _ tt, (tt, each _ tt, (tt, each _ tt, (tt, each _ tt, (tt, each _ tt, (tt, each _ tt, tt))))))))))))))
+    let one = λ (kind : Kind) (number : IsNumberType (value_type_of kind)). each (value_type_of kind) number in
+    (tt, one kinds.Double tt, (tt, one kinds.Float tt, (tt, one kinds.Int64 tt, (tt, one kinds.UInt64 tt, (tt, one kinds.Int32 tt, (tt, one kinds.Fixed64 tt, (tt, one kinds.Fixed32 tt, (tt, one kinds.Bool tt, (tt, one kinds.UInt32 tt, (tt, one kinds.Enumeration tt, (tt, one kinds.SFixed32 tt, (tt, one kinds.SFixed64 tt, (tt, one kinds.SInt32 tt, (tt, one kinds.SInt64 tt, tt))))))))))))))
 
 pub returns-clause-allowed : goal.returns-clause-allowed
 returns-clause-allowed c =
     let are : c.of.result ≡ listed c.args.card =
-        cc (c.of.ensures, c.in_ok-vec.ensures.items, c.field.ensures, c.field-2.ensures, c.field-3.ensures, c.field-4.ensures, c.field-5.ensures, c.field-6.ensures, c.field-7.ensures, c.field-8.ensures, c.field-9.ensures, c.field-10.ensures, c.field-11.ensures, c.field-12.ensures, c.field-13.ensures, c.field-14.ensures) in
+    c.of.ensures ∙ c.in_ok-vec.ensures.items ∙ (λ i. c.field.ensures i ∷ c.field-2.ensures i ∷ c.field-3.ensures i ∷ c.field-4.ensures i ∷ c.field-5.ensures i ∷ c.field-6.ensures i ∷ c.field-7.ensures i ∷ c.field-8.ensures i ∷ c.field-9.ensures i ∷ c.field-10.ensures i ∷ c.field-11.ensures i ∷ c.field-12.ensures i ∷ c.field-13.ensures i ∷ c.field-14.ensures i ∷ []) in
     subst (FieldsAllowed 3 0) (sym are) (all_allowed c.args.card c.requires)

@@ -1,4 +1,4 @@
-use Rattle.std.proofs.Common.{rules, ◌≡◌, ◌∙◌, ◌+◌, ◌<◌, ℕ, List, [], ◌∷◌, None, refl, sym, ap, subst, length, arith}
+use Rattle.std.proofs.Common.{rules, ◌≡◌, ◌∙◌, ◌+◌, [], ◌∷◌, None, refl, sym, ap, subst, length}
 use Rattle.std.specs.Prelude.{Result, Ok, Err, OnErr}
 use Rattle.arena_mem.specs.Places.{used}
 use Rattle.pb_schema.specs.Meter.{array_bytes}
@@ -6,7 +6,7 @@ use Rattle.pb_schema.specs.Empty.{empty_with}
 use Rattle.pb_schema.specs.Fits.{fields_of}
 use Rattle.pb_schema.specs.Tree.{Shape, Sub}
 use Rattle.pb_schema.specs.Kinds.{Nested, value_type_of, slot_of}
-use Rattle.msg_layout.specs.Layout.{Layout, layout_of}
+use Rattle.msg_layout.specs.Layout.{layout_of}
 use Rattle.dyn_message.specs.Feet.{Foot, InPlace, IsAmong, SameAt, KeepsOthers, foot_bytes}
 use Rattle.dyn_message.specs.Slots.{word, place_in}
 use Rattle.dyn_message.specs.Stands.{MessageStands, Stands, ValueStands}
@@ -17,7 +17,7 @@ use Rattle.dyn_message.proofs.Setting.{keeps_join, growth_keeps}
 use Rattle.dyn_message.proofs.There.{message_there}
 use Rattle.dyn_message.proofs.SameBytes.{message_same}
 use Rattle.dyn_message.proofs.Messages.{some_value}
-use Rattle.dyn_message.proofs.Appending.{Appended, appended_from, fresh_apart, among_one}
+use Rattle.dyn_message.proofs.Appending.{appended_from, fresh_apart, among_one}
 use Rattle.dyn_message.proofs.ListLaws.{list_may_grow, stands_grown, calls_of, appended, as_many, none_before, changes_then}
 use Rattle.dyn_message.proofs.NestedLists.{message_bytes, sub_stands, appended_found}
 use Rattle.dyn_message.proofs.Linking.{message_type_there}

@@ -1,5 +1,4 @@
-use Rattle.std.proofs.Common.{◌≡◌, ◌+◌, ◌*◌, ◌<◌, ◌∙◌, ℕ, refl, sym, ap, arith, w32, Fits}
-use Rattle.pb_schema.specs.Kinds.{ValueType, value_type_of, slot_of}
+use Rattle.std.proofs.Common.{◌*◌, ◌∙◌, refl, sym, ap, arith}
 use Rattle.dyn_message.specs.Slots.{part, place_in}
 use Rattle.dyn_message.proofs.Opening.{has_field}
 use Rattle.dyn_message.proofs.ListLaws.{element_at}

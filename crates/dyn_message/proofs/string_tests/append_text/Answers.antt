@@ -1,4 +1,4 @@
-use Rattle.std.proofs.Common.{◌≡◌, sym, subst, true}
+use Rattle.std.proofs.Common.{◌≡◌, sym, subst, true, rules}
 use Rattle.std.specs.Str.{is_utf8}
 use Rattle.std.proofs.lemmas.Str.{is_utf8-from_IsUtf8}
 use Rattle.pb_schema.specs.Kinds.{Characters, value_type_of}
