@@ -1,4 +1,4 @@
-use Rattle.std.proofs.Common.{◌≡◌, [], ◌∷◌, List, refl}
+use Rattle.std.proofs.Common.{[], ◌∷◌, refl}
 use Rattle.pb_schema.specs.Record.{Record}
 use Rattle.pb_schema.proofs.RecordsFront.{records_found_any}
 use Rattle.dyn_message.proofs.string_tests.append_piece.Goals as goal
