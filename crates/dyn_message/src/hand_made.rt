@@ -1,5 +1,5 @@
 // A schema made by hand, and what its tests ask of a field.
-ghost use Rattle.std.specs.Prelude.{◌≡◌, ◌<◌, true, false, IfOk, IfSome, Some, length};
+ghost use Rattle.std.specs.Prelude.{◌≡◌, ◌<◌, ◌+◌, ◌-◌, ◌*◌, ◌^◌, true, false, IfOk, IfSome, Some, length};
 ghost use Rattle.pb_schema.specs.HeldAt.{field_at};
 ghost use Rattle.pb_schema.specs.Kinds.{ValueType, Characters, Nested, value_type_of};
 ghost use Rattle.pb_schema.specs.Fitted.{IsPatternOf};
@@ -94,6 +94,45 @@ pub fn made_by_hand(alloc: Global) -> Result<Schema, NoMemory>
     };
     Ok(Schema {
         types: TypeList::of(vec![in alloc; alone, listed, others]?),
+    })
+}
+
+// The numbers of fields that lie as far apart as may be, up to the greatest number.
+pub fn far_number(place: u32) -> u32
+    requires { place < 512 }
+    ensures { result ≡ place * 2 ^ 20 + (2 ^ 20 - 1) }
+{
+    place * (1 << 20) + ((1 << 20) - 1)
+}
+
+fn far_fields(alloc: Global) -> Result<Vec<FieldType>, NoMemory>
+    ensures numbers { IfOk result (λ fields. NumbersAscend 1 fields.items) }
+    ensures allowed { IfOk result (λ fields. FieldsAllowed 1 0 fields.items) }
+    ensures count { IfOk result (λ fields. length fields.items ≡ 512) }
+{
+    let mut fields = Vec::new(alloc);
+    for place in 0..512u32 {
+        fields.push(FieldType {
+            number: far_number(place),
+            kind: Kind::UInt32,
+            card: Card::Implicit,
+        })?;
+    }
+    Ok(fields)
+}
+
+// One type, with as many fields as a type may have.
+pub fn wide(alloc: Global) -> Result<Schema, NoMemory>
+    ensures lawful { IfOk result Lawful }
+    ensures types { IfOk result (λ schema. length schema.types ≡ 1) }
+{
+    let wide = MessageType {
+        name: Name::of(alloc, "Wide")?,
+        fields: FieldList::of(far_fields(alloc)?),
+        oneofs: 0,
+    };
+    Ok(Schema {
+        types: TypeList::of(vec![in alloc; wide]?),
     })
 }
 

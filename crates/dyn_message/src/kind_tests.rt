@@ -1,10 +1,12 @@
 // Each kind of number, alone and in a list: the least, the greatest and 1 are read back.
-ghost use Rattle.std.specs.Prelude.{◌≡◌, ◌<◌, IfOk, length};
+ghost use Rattle.std.specs.Prelude.{◌≡◌, ◌<◌, ◌≤◌, ◌+◌, IfOk, length};
 ghost use Rattle.arena_block.specs.Policy.{IsValid};
 ghost use Rattle.dyn_message.specs.Fields.{IsMessageIn};
 
 use crate::fields::record_is_there;
-use crate::hand_made::{ALONE, LISTED, field_of, is_list, is_number, is_pattern, made_by_hand};
+use crate::hand_made::{
+    ALONE, LISTED, far_number, field_of, is_list, is_number, is_pattern, made_by_hand, wide,
+};
 use crate::{MsgRef, append_scalar, count, create, element_scalar, get_scalar, set_scalar};
 use arena_block::Policy;
 use arena_mem::{MemFault, Memory, PlainMemory};
@@ -131,6 +133,48 @@ fn try_numbers<M: Memory>(rt: &impl Abort, mem: &mut M, types: &Layouts) -> Resu
             try_listed(rt, mem, types, field, bits)?;
         }
     }
+    Ok(())
+}
+
+// Sets so many fields of the wide type, the first of them that at this place.
+fn put_far<M: Memory>(
+    rt: &impl Abort,
+    mem: &mut M,
+    types: &Layouts,
+    msg: MsgRef,
+    place: u32,
+    more: u32,
+)
+    requires message { IsMessageIn types.now (M.places mem.old) (M.buffers mem.old) msg }
+    requires few { place + more ≤ 512 }
+    ensures { IsMessageIn types.now (M.places mem.new) (M.buffers mem.new) msg }
+{
+    if more > 0 {
+        assert!(rt; put(mem, types, msg, far_number(place), u64::from(place) + 1));
+        put_far(rt, mem, types, msg, place + 1, more - 1);
+    }
+}
+
+fn try_far<M: Memory>(rt: &impl Abort, mem: &mut M, types: &Layouts) -> Result<(), MemFault>
+    requires { 0 < length types.now.types }
+{
+    let msg = create(mem, types, 0)?;
+    put_far(rt, mem, types, msg, 0, 512);
+    for place in 0..512u32 {
+        assert_eq!(rt;
+            number(mem, types, msg, far_number(place)),
+            Some(u64::from(place) + 1),
+            "at {place}"
+        );
+    }
+    Ok(())
+}
+
+#[test]
+fn the_widest_message_keeps_each_number(rt: HostRuntime) -> Result<(), Fail> {
+    let types = layouts(rt.alloc(), wide(rt.alloc())?)?;
+    let mut arena = SerialArena::new(rt.alloc(), Policy::profile(), 3, 5, 7);
+    try_far(&rt, &mut arena, &types)?;
     Ok(())
 }
 
