@@ -25,3 +25,4 @@ pub mod OneShape
 pub mod Cases
 mod Rows
 pub mod NodeFields
+pub mod ByEntry

@@ -14,6 +14,11 @@ use Rattle.dyn_message.specs.Arrays.{IsLeastRoom, HoldsArray, most_elements}
 abbrev pub list_slot : Places → Place → ℕ → List ℕ
 list_slot places p at = part at array_slot (bytes_at places p)
 
+-- the slot of a list tells this place of its elements, and that there are so many
+pub record IsListAt (places : Places) (p : Place) (at : ℕ) (array : Place) (count : ℕ) : Type 0 where
+  pub place : array ≡ place_in (list_slot places p at)
+  pub counted : count ≡ word 4 (list_slot places p at)
+
 -- a list that isn't full of the most elements there may be
 pub record MayGrow (places : Places) (size : ℕ) (slot : List ℕ) : Type 0 where
   pub feet : List Foot

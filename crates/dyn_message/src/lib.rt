@@ -6,6 +6,7 @@
 //! message doesn't stand on keeps its bytes.
 #![tactic(auto)]
 
+mod by_entry;
 mod bytes;
 mod fields;
 mod laws;
@@ -22,6 +23,7 @@ mod string_lists;
 mod strings;
 mod unknown;
 
+pub use by_entry::{append_scalar_by, list_by, set_scalar_by};
 pub use fields::is_set;
 pub use laws::{
     changes_join, changes_widen, feet_are_few, feet_are_there, growth_changes, old_or_fresh_joins,

@@ -12,12 +12,11 @@ ghost use Rattle.dyn_message.specs.Changes.{Changes, NowStands};
 ghost use Rattle.dyn_message.specs.Fields.{IsMessageIn};
 ghost use Rattle.dyn_message.specs.Lists.{HasList, HasNumbers, ListsNumber, HasFewer, HasMore, count_at, elements_at, element_bytes, with_appended};
 
+use crate::by_entry::{append_scalar_by, list_by};
 use crate::fields::{entry_in, record_is_there};
 use crate::msg_ref::MsgRef;
-use crate::rewrite::set_number;
-use crate::rooms::{list_at, room_for_one};
+use crate::rooms::list_at;
 use crate::scalar::number_at;
-use crate::slot::{ARRAY, place_slot};
 use arena_mem::{MemFault, Memory};
 use msg_layout::single_bytes;
 use msg_layout::tables::Layouts;
@@ -56,11 +55,8 @@ pub fn append_scalar<M: Memory>(
 {
     record_is_there(mem, types, msg);
     let entry = entry_in(types, msg.type_no, field);
-    let size = single_bytes(entry.field.kind);
-    let (array, count) = room_for_one(mem, msg.place, entry.slot, size)?;
-    set_number(mem, array, count * size, entry.field.kind, bits);
-    let slot = place_slot(array, count + 1, ARRAY);
-    mem.write(msg.place, entry.slot, &slot);
+    let (array, count) = list_by(mem, types, msg, field, entry);
+    append_scalar_by(mem, types, msg, field, entry, array, count, bits)?;
     Ok(())
 }
 

@@ -59,7 +59,7 @@ pub fn list_at(bytes: &[u8], at: u32) -> (Place, u32)
 
 // Whether so many elements are all that a place of this length has room for. A place for four bools has room for eight,
 // but is for four.
-fn is_full(len: u32, count: u32, size: u32) -> bool
+pub fn is_full(len: u32, count: u32, size: u32) -> bool
     requires small { count * size < 2 ^ 32 }
     ensures { result ≡ is_full len count size }
 {

@@ -12,10 +12,11 @@ ghost use Rattle.dyn_message.specs.Stands.{Stands};
 ghost use Rattle.dyn_message.specs.Changes.{Changes, NowStands};
 ghost use Rattle.dyn_message.specs.Fields.{IsMessageIn, HasNumber, IsNumberType, first_set, TakesNumber, number_put, case_in};
 
+use crate::by_entry::set_scalar_by;
 use crate::bytes::{long_at, word_at};
 use crate::fields::{entry_in, is_set, record_is_there};
 use crate::msg_ref::MsgRef;
-use crate::rewrite::{is_word_at, mark_set, set_number};
+use crate::rewrite::is_word_at;
 use arena_mem::Memory;
 use msg_layout::single_bytes;
 use msg_layout::tables::{Layouts, TypeLayout};
@@ -55,8 +56,7 @@ pub fn set_scalar<M: Memory>(mem: &mut M, types: &Layouts, msg: MsgRef, field: u
 {
     record_is_there(mem, types, msg);
     let entry = entry_in(types, msg.type_no, field);
-    mark_set(mem, types.of_type(msg.type_no), msg.place, entry);
-    set_number(mem, msg.place, entry.slot, entry.field.kind, bits);
+    set_scalar_by(mem, types, msg, field, entry, bits);
 }
 
 /// The number of the field that is set in this oneof, or 0.
