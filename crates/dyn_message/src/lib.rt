@@ -24,7 +24,7 @@ mod strings;
 mod unknown;
 
 pub use by_entry::{append_scalar_by, list_by, set_scalar_by};
-pub use fields::is_set;
+pub use fields::{entry_in, is_set};
 pub use laws::{
     changes_join, changes_widen, feet_are_few, feet_are_there, growth_changes, old_or_fresh_joins,
     one_shape_stands, one_tree_stands, record_is_a_foot, same_bytes_stand, separate_messages_stay,

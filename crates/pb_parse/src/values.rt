@@ -1,5 +1,5 @@
 // Records of fields that hold numbers, texts and bytes.
-ghost use Rattle.std.specs.Prelude.{◌≡◌, ◌≢◌, ◌-◌, ◌+◌, ◌*◌, ◌<◌, ◌≤◌, ◌^◌, ◌∷◌, [], ℕ, List, length, drop, true, IfOk, IfErr, IsOk, IsErr};
+ghost use Rattle.std.specs.Prelude.{◌≡◌, ◌≢◌, ◌-◌, ◌+◌, ◌*◌, ◌<◌, ◌≤◌, ◌^◌, ◌∷◌, [], ℕ, List, Some, length, drop, true, IfOk, IfErr, IsOk, IsErr};
 ghost use Rattle.arena_mem.specs.Places.{NamesFullRegion};
 ghost use Rattle.pb_schema.specs.Kinds.{value_type_of};
 ghost use Rattle.pb_schema.specs.Tree.{Shape, Number, Bytes};
@@ -8,14 +8,19 @@ ghost use Rattle.dyn_message.specs.Stands.{Stands, IsSingle, IsList};
 ghost use Rattle.dyn_message.specs.Changes.{Changes, NowStands};
 ghost use Rattle.dyn_message.specs.Fields.{IsMessageIn, IsNumberType, IsBytesType};
 ghost use Rattle.dyn_message.specs.Lists.{ListsNumber, ListsBytes, with_appended};
+ghost use Rattle.dyn_message.specs.Rooms.{IsListAt};
+ghost use Rattle.msg_layout.specs.Layout.{entry_of};
 ghost use Rattle.pb_parse.specs.Parsing.{IsCause, IsFor, fits_kind};
 ghost use Rattle.pb_parse.specs.Reading.{contents_read, record_at, with_taken};
 
 use crate::number::number_at;
 use crate::stop::Halt;
 use crate::unknown::MOST_ELEMENTS;
-use arena_mem::{MemFault, Memory};
-use dyn_message::{MsgRef, append_bytes, append_scalar, count, set_bytes, set_scalar};
+use arena_mem::{MemFault, Memory, Place};
+use dyn_message::{
+    MsgRef, append_bytes, append_scalar, append_scalar_by, count, entry_in, list_by, set_bytes, set_scalar,
+};
+use msg_layout::Entry;
 use msg_layout::tables::Layouts;
 use pb_schema::{FieldType, Kind};
 use pb_wire::WireRecord;
@@ -119,7 +124,9 @@ pub fn append_number<M: Memory>(
     }
 }
 
-/// Appends the numbers of a packed record to a list, one by one.
+/// Appends the numbers of a packed record to a list, one by one. It isn't inlined, so that the recursive function that calls
+/// it stays small.
+#[inline(never)]
 pub fn append_packed<M: Memory>(
     mem: &mut M,
     types: &Layouts,
@@ -142,14 +149,19 @@ pub fn append_packed<M: Memory>(
 {
     let _schema = types.schema();
     let front = &bytes[..found.end as usize];
+    let number = field.number;
+    let entry = entry_in(types, msg.type_no, number);
+    let (mut array, mut count) = list_by(mem, types, msg, number, entry);
     let mut at = found.payload;
     while at < found.end {
         let Some((bits, behind)) = number_at(front, at, field.kind) else {
             return Err(Halt::Bad);
         };
-        if let Err(fault) = append_one(mem, types, msg, field.number, bits) {
-            return Err(Halt::Refused(fault));
+        match append_next(mem, types, msg, number, entry, array, count, bits) {
+            Ok(next) => array = next,
+            Err(fault) => return Err(Halt::Refused(fault)),
         }
+        count += 1;
         at = behind;
     }
     Ok(())
@@ -204,6 +216,35 @@ fn append_one<M: Memory>(
         return Err(MemFault::NoMemory);
     }
     append_scalar(mem, types, msg, number, bits)
+}
+
+// The same behind the elements that the list's slot tells of; it answers where they lie then.
+#[inline(always)]
+fn append_next<M: Memory>(
+    mem: &mut M,
+    types: &Layouts,
+    msg: MsgRef,
+    number: u32,
+    entry: Entry,
+    array: Place,
+    count: u32,
+    bits: u64,
+) -> Result<Place, MemFault>
+    requires message { IsMessageIn types.now (M.places mem.old) (M.buffers mem.old) msg }
+    requires entry { entry_of types.now msg.type_no number ≡ Some entry }
+    requires field { ListsNumber types.now msg.type_no number bits }
+    requires told { IsListAt (M.places mem.old) msg.place entry.slot array count }
+    ensures appended { IfOk result (λ _. (t : Shape) (feet : List Foot) → Stands types.now (M.places mem.old) (M.buffers mem.old) msg t feet
+        → NowStands types.now (M.places mem.old) (M.buffers mem.old) (M.places mem.new) (M.buffers mem.new) msg (with_appended types.now msg.type_no number (Number bits) t) feet) }
+    ensures told { IfOk result (λ next. IsListAt (M.places mem.new) msg.place entry.slot next (count + 1)) }
+    ensures few { IfOk result (λ _. count < 2 ^ 26) }
+    ensures changes { (t : Shape) (feet : List Foot) → Stands types.now (M.places mem.old) (M.buffers mem.old) msg t feet → Changes M.key M.places M.buffers M.blocks 1 0 feet mem.old mem.new }
+    ensures spent { IfErr result (NamesFullRegion (M.blocks mem.new)) }
+{
+    if count >= MOST_ELEMENTS {
+        return Err(MemFault::NoMemory);
+    }
+    append_scalar_by(mem, types, msg, number, entry, array, count, bits)
 }
 
 // The same of a text or bytes.

@@ -3,6 +3,7 @@ use Rattle.pb_schema.specs.Fitted.{IsPatternOf}
 use Rattle.pb_schema.specs.Kinds.{value_type_of}
 use Rattle.pb_schema.specs.Walk.{numbers_end}
 use Rattle.dyn_message.specs.Changes.{NowStands}
+use Rattle.dyn_message.proofs.Opening.{some_record}
 use Rattle.pb_parse.specs.Reading.{payload_at}
 use Rattle.pb_parse.proofs.ContentsRead.{ok_is, err_is, packed_holds, payload_front}
 use Rattle.pb_parse.proofs.Memories.{nothing_changes, then_within, within_more}
@@ -11,6 +12,11 @@ use Rattle.pb_parse.proofs.Packed.{PackedTo, packed_none, packed_more, packed_al
 use Rattle.pb_parse.proofs.Runs.{left_behind, none_left, some_left}
 use Rattle.pb_parse.proofs.TakenShapes.{number_coding, packed_listed}
 use Rattle.pb_parse.proofs.values.append_packed.Goals as goal
+
+pub entry_in-entry-requires-clause-known : goal.entry_in-entry-requires-clause-known
+entry_in-entry-requires-clause-known g c =
+    let M = g.M.Memory in
+    (some_record c.args.types.now (M.places c.args.mem.now) (M.buffers c.args.mem.now) c.args.msg c.requires.message).type
 
 pub loop-at-init : goal.loop-at-init
 loop-at-init g c =
@@ -25,6 +31,7 @@ loop-at-init g c =
       walk = λ coding e. ap (numbers_end coding.wire found.payload 0) (sym front);
       put = λ coding e t feet st. subst (λ s. PackedTo c.args.types.now (M.places c.args.mem.now) (M.buffers c.args.mem.now) (M.places c.args.mem.now) (M.buffers c.args.mem.now) c.args.msg c.args.field.number coding (payload_at found bytes) s t feet) (sym front)
           (packed_none c.args.types.now c.args.msg c.args.field.number coding c.args.field c.requires.taken.known (M.places c.args.mem.now) (M.buffers c.args.mem.now) (payload_at found bytes) t feet st);
+      told = c.list_by-count.ensures.told;
       changes = λ t feet st. within_more M.key M.places M.buffers M.blocks 0 _ 0 0 feet c.args.mem.now c.args.mem.now (nothing_changes M.key M.places M.buffers M.blocks feet c.args.mem.now) (omega arith) (omega arith);
     }
 
@@ -37,8 +44,8 @@ returns-in_default-clause-stopped g c = λ left.
     (packed_holds c.args.types.now left c.args.field c.args.found c.args.bytes.now k.0 k.1 c.requires.packed
     ∙ (c.loop-at.invariant.walk k.0 k.1 ∙ numbers_bad k.0.wire c.loop-at.at (drop c.loop-at.at (take c.args.found.end c.args.bytes.now)) bad.0 some bad.1))
 
-pub append_one-requires-clause-field : goal.append_one-requires-clause-field
-append_one-requires-clause-field g c =
+pub append_next-requires-clause-field : goal.append_next-requires-clause-field
+append_next-requires-clause-field g c =
     let k = number_coding (value_type_of c.args.field.kind) c.requires.number in
     let good = c.in-Some.ensures k.0 k.1 in
     record { field = c.args.field; found = c.requires.taken.known; card = c.requires.list; type = subst (λ type. IsPatternOf type c.in-Some.bits) (sym k.1) good.4 }
@@ -48,8 +55,8 @@ returns-in-Err-clause-changes g c = λ t feet st.
     let M = g.M.Memory in
     let k = number_coding (value_type_of c.args.field.kind) c.requires.number in
     let p = c.loop-at.invariant.put k.0 k.1 t feet st in
-    then_within M.key M.places M.buffers M.blocks (c.loop-at.at - c.args.found.payload) 1 0 0 c.args.found.payload_len 0 feet p.stands.now c.args.mem.now c.loop-at.mem c.append_one.new.mem
-    (c.loop-at.invariant.changes t feet st) p.stands.from (c.append_one.ensures.changes p.shape p.stands.now p.stands.stands)
+    then_within M.key M.places M.buffers M.blocks (c.loop-at.at - c.args.found.payload) 1 0 0 c.args.found.payload_len 0 feet p.stands.now c.args.mem.now c.loop-at.mem c.append_next.new.mem
+    (c.loop-at.invariant.changes t feet st) p.stands.from (c.append_next.ensures.changes p.shape p.stands.now p.stands.stands)
     (omega (arith, c.loop-at-test.true, c.loop-at.invariant.from, c.requires.taken.payload)) (omega arith)
 
 pub loop-at-smaller : goal.loop-at-smaller
@@ -77,7 +84,7 @@ loop-at-preserved g c =
     let before : at ≤ behind = omega (arith, good.1) in
     let first = c.requires.message in
     let p = inv.put k.0 k.1 first.0 first.1 first.2 in
-    let now = c.in_default-append_one.ensures.appended p.shape p.stands.now p.stands.stands in
+    let now = c.in-Ok.ensures.appended p.shape p.stands.now p.stands.stands in
     record {
       message = (_, now.now, now.stands);
       from = omega (arith, inv.from, before);
@@ -91,14 +98,15 @@ loop-at-preserved g c =
       put = λ coding e t feet st.
           let own = c.in-Some.ensures coding e in
           let q = inv.put coding e t feet st in
-          subst (λ s. PackedTo schema (M.places c.args.mem.now) (M.buffers c.args.mem.now) (M.places c.append_one.new.mem) (M.buffers c.append_one.new.mem) c.args.msg c.args.field.number coding (payload_at found bytes) s t feet) (left_behind at behind front before)
-          (packed_more schema c.args.msg c.args.field.number coding c.args.field c.requires.taken.known (M.places c.args.mem.now) (M.places c.loop-at.mem) (M.places c.append_one.new.mem) (M.buffers c.args.mem.now) (M.buffers c.loop-at.mem) (M.buffers c.append_one.new.mem)
+          subst (λ s. PackedTo schema (M.places c.args.mem.now) (M.buffers c.args.mem.now) (M.places c.append_next.new.mem) (M.buffers c.append_next.new.mem) c.args.msg c.args.field.number coding (payload_at found bytes) s t feet) (left_behind at behind front before)
+          (packed_more schema c.args.msg c.args.field.number coding c.args.field c.requires.taken.known (M.places c.args.mem.now) (M.places c.loop-at.mem) (M.places c.append_next.new.mem) (M.buffers c.args.mem.now) (M.buffers c.loop-at.mem) (M.buffers c.append_next.new.mem)
           (payload_at found bytes) (drop at front) t feet at (behind - at) c.in-Some.bits (inv.changes t feet st).still_there q own.0 some within own.3
-          (c.in_default-append_one.ensures.appended q.shape q.stands.now q.stands.stands));
+          (c.in-Ok.ensures.appended q.shape q.stands.now q.stands.stands));
+      told = c.in-Ok.ensures.told;
       changes = λ t feet st.
           let q = inv.put k.0 k.1 t feet st in
-          then_within M.key M.places M.buffers M.blocks (at - found.payload) 1 0 0 (behind - found.payload) 0 feet q.stands.now c.args.mem.now c.loop-at.mem c.append_one.new.mem
-          (inv.changes t feet st) q.stands.from (c.append_one.ensures.changes q.shape q.stands.now q.stands.stands) (omega (arith, inv.from, good.1)) (omega arith);
+          then_within M.key M.places M.buffers M.blocks (at - found.payload) 1 0 0 (behind - found.payload) 0 feet q.stands.now c.args.mem.now c.loop-at.mem c.append_next.new.mem
+          (inv.changes t feet st) q.stands.from (c.append_next.ensures.changes q.shape q.stands.now q.stands.stands) (omega (arith, inv.from, good.1)) (omega arith);
     }
 
 pub returns-clause-put : goal.returns-clause-put
