@@ -16,7 +16,7 @@ use msg_layout::{Entry, Mark, single_bytes, slot_bytes};
 use pb_schema::Kind;
 
 /// Marks a field as set, and takes the value of another member of its oneof away.
-#[inline]
+#[inline(always)]
 pub fn mark_set<M: Memory>(mem: &mut M, layout: &TypeLayout, place: Place, entry: Entry)
     requires live { IsLive (M.places mem.old) place }
     requires sound { IsSound layout.now }
@@ -92,7 +92,9 @@ fn set_word<M: Memory>(mem: &mut M, place: Place, at: u32, word: u32)
     mem.write(place, at, &word.to_le_bytes());
 }
 
-// Zeroes the slot of the member that the word at this place tells, where it isn't the one with this number.
+// Zeroes the slot of the member that the word at this place tells, where it isn't the one with this number. It is apart
+// so that the common case is a few instructions.
+#[inline(never)]
 fn zero_other<M: Memory>(mem: &mut M, layout: &TypeLayout, place: Place, number: u32, at: u32)
     requires live { IsLive (M.places mem.old) place }
     requires sound { IsSound layout.now }

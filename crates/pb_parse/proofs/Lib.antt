@@ -19,3 +19,4 @@ pub mod ExactSteps
 pub mod RecordCame
 pub mod WholePayload
 pub mod Nested
+pub mod ShortRecords

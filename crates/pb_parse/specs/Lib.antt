@@ -3,3 +3,4 @@ pub mod Reading
 pub mod Parsing
 pub mod Numbers
 pub mod Whole
+pub mod Short

@@ -1,6 +1,7 @@
 // What the payload of a record has to be, by the field that takes the record.
 ghost use Rattle.std.specs.Prelude.{◌≡◌, ◌<◌, length};
 ghost use Rattle.pb_schema.specs.Kinds.{value_type_of, value_wire, is_number};
+ghost use Rattle.pb_schema.specs.Cards.{is_repeated};
 ghost use Rattle.pb_schema.specs.Fits.{contents_by};
 ghost use Rattle.pb_parse.specs.Contents.{meant, contents_at, fits_wire, IsKnown, IsNumberWire};
 
@@ -44,6 +45,14 @@ pub(crate) fn is_number_kind(kind: Kind) -> bool
     ensures { result ≡ is_number (value_type_of kind) }
 {
     !matches!(kind, Kind::Text | Kind::Bytes | Kind::Message(_))
+}
+
+/// Whether a field of a card is a list.
+#[inline]
+pub(crate) fn is_list(card: Card) -> bool
+    ensures { result ≡ is_repeated card }
+{
+    matches!(card, Card::Repeated { .. })
 }
 
 /// Whether a field takes a record of its number that has this wire type (encoding guide, "Packed Repeated Fields").

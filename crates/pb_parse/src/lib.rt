@@ -12,6 +12,7 @@ mod laws;
 mod message;
 mod number;
 mod parse;
+mod short;
 mod stop;
 mod unknown;
 mod values;

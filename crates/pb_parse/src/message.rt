@@ -2,7 +2,6 @@
 ghost use Rattle.std.specs.Prelude.{◌≡◌, ◌-◌, ◌+◌, ◌*◌, ◌<◌, ◌≤◌, ◌^◌, ◌∷◌, [], false, true, ℕ, List, length, drop, IfOk, IfErr, IsOk, IsErr, MatchOption};
 ghost use Rattle.pb_schema.specs.Records.{Record, Records};
 ghost use Rattle.pb_schema.specs.Kinds.{value_type_of};
-ghost use Rattle.pb_schema.specs.Cards.{is_repeated};
 ghost use Rattle.pb_schema.specs.Fits.{fields_of, is_taken, takes};
 ghost use Rattle.pb_schema.specs.HeldAt.{field_at};
 ghost use Rattle.pb_schema.specs.Tree.{Shape};
@@ -13,14 +12,15 @@ ghost use Rattle.dyn_message.specs.Fields.{IsMessageIn, IsMessageType};
 ghost use Rattle.pb_parse.specs.Parsing.{Came, IsCause, IsFor, LiesBefore, pending};
 ghost use Rattle.pb_parse.specs.Reading.{contents_read, read_left, record_at, walked, with_taken};
 
-use crate::contents::{DELIMITED, takes_wire};
+use crate::contents::{DELIMITED, is_list, takes_wire};
+use crate::short::{set_short, short_number};
 use crate::stop::Halt;
 use crate::unknown::{MOST_ELEMENTS, Unknown, append_pending};
 use crate::values::{append_number, append_packed, append_string, set_number, set_string};
 use arena_mem::{MemFault, Memory};
 use dyn_message::{MsgRef, append_sub, count, make_sub};
 use msg_layout::tables::Layouts;
-use pb_schema::{Card, FieldType, Kind};
+use pb_schema::{FieldType, Kind};
 use pb_wire::{WireRecord, read_record};
 use std::alloc::Global;
 
@@ -94,6 +94,10 @@ fn parse_record<M: Memory>(
         → Changes M.key M.places M.buffers M.blocks (4 * (length bytes.now - at)) (4 * (length bytes.now - at)) feet mem.old mem.new }
 {
     let _schema = types.schema();
+    if let Some(short) = short_number(types, msg.type_no, bytes, at) {
+        set_short(mem, types, msg, bytes, at, short);
+        return Ok(short.end);
+    }
     let Ok(found) = read_record(bytes, at, MOST_LEVELS - left) else {
         return Err(Halt::Bad);
     };
@@ -120,13 +124,6 @@ fn field_for(types: &Layouts, type_no: u32, found: WireRecord) -> Option<FieldTy
         Some(entry) if takes_wire(entry.field, found.wire) => Some(entry.field),
         _ => None,
     }
-}
-
-// Whether a field is a list.
-fn is_list(card: Card) -> bool
-    ensures { result ≡ is_repeated card }
-{
-    matches!(card, Card::Repeated { .. })
 }
 
 // Puts a record into the field that takes it.

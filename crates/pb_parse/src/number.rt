@@ -49,7 +49,7 @@ fn spelled_at(bytes: &[u8], at: u32, wire: u8) -> Option<(u64, u32)>
     }
 }
 
-#[inline]
+#[inline(always)]
 fn varint_at(bytes: &[u8], at: u32) -> Option<(u64, u32)>
     requires at { at ≤ length bytes.now }
     requires short { length bytes.now < 2 ^ 31 }
@@ -110,7 +110,7 @@ fn word_at(bytes: &[u8], at: u32) -> u32
 }
 
 // The pattern of the number that stands on the wire, by the kind.
-#[inline]
+#[inline(always)]
 fn kept(kind: Kind, number: u64) -> u64
     ensures { result ≡ kept_by (value_type_of kind) number }
 {

@@ -97,6 +97,9 @@ pub fn append_pending<M: Memory>(
     ensures spent { IfErr result (NamesFullRegion (M.blocks mem.new)) }
 {
     if unknown.copied.is_empty() {
+        if unknown.start == unknown.end {
+            return Ok(());
+        }
         let run = &bytes[unknown.start as usize..unknown.end as usize];
         return append_piece(mem, types, msg, run);
     }

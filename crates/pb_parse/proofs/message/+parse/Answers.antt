@@ -60,9 +60,24 @@ parse_message-returns-in-Ok-append_pending-clause-sound g t c =
 
 -- RECORDS
 
-pub parse_record-returns-in_default-clause-stopped : goal.parse_record-returns-in_default-clause-stopped
-parse_record-returns-in_default-clause-stopped g t c =
-    none_at c.args.types.now c.args.left c.args.at c.args.bytes.now c.args.msg.type_no c.in_default.field-0 c.requires.left c.requires.at c.in_default.ensures.exact
+pub parse_record-short_number-requires-clause-known : goal.parse_record-short_number-requires-clause-known
+parse_record-short_number-requires-clause-known g t c =
+    let M = g.M.Memory in
+    (some_record c.args.types.now (M.places c.args.mem.now) (M.buffers c.args.mem.now) c.args.msg c.requires.message).type
+
+pub parse_record-returns-in-Some-clause-few : goal.parse_record-returns-in-Some-clause-few
+parse_record-returns-in-Some-clause-few g t c = λ u feet st.
+    let M = g.M.Memory in
+    record_changes M.key M.places M.buffers M.blocks 0 (4 * (c.in-Some.short.end - c.args.at)) 0 (4 * (c.in-Some.short.end - c.args.at)) c.args.types.now c.args.msg u feet c.args.mem.now c.set_short.new.mem st c.set_short.ensures.changes (omega arith) (omega arith)
+
+pub parse_record-returns-in-Some-clause-changes : goal.parse_record-returns-in-Some-clause-changes
+parse_record-returns-in-Some-clause-changes g t c = λ u feet st.
+    let M = g.M.Memory in
+    record_changes M.key M.places M.buffers M.blocks 0 (4 * (length c.args.bytes.now - c.args.at)) 0 (4 * (length c.args.bytes.now - c.args.at)) c.args.types.now c.args.msg u feet c.args.mem.now c.set_short.new.mem st c.set_short.ensures.changes (omega arith) (omega arith)
+
+pub parse_record-returns-in_default-read_record-clause-stopped : goal.parse_record-returns-in_default-read_record-clause-stopped
+parse_record-returns-in_default-read_record-clause-stopped g t c =
+    none_at c.args.types.now c.args.left c.args.at c.args.bytes.now c.args.msg.type_no c.in_default-read_record.field-0 c.requires.left c.requires.at c.in_default-read_record.ensures.exact
 
 pub parse_record-field_for-requires : goal.parse_record-field_for-requires
 parse_record-field_for-requires g t c =
@@ -75,8 +90,8 @@ parse_record-parse_taken-requires g t c κs within =
     let bytes = c.args.bytes.now in
     let found = c.in-Ok.found in
     let f = found_at c.args.left c.args.at bytes found c.requires.left c.in-Ok.ensures.exact in
-    let own = c.in-Some.ensures (record_at found bytes) refl refl in
-    let is : IsFor schema c.args.msg.type_no bytes found c.in-Some.field = found_is_for schema c.args.left c.args.msg.type_no c.args.at bytes found f c.in-Some.field own.0 own.1 c.in-Ok.ensures.bound.2 in
+    let own = c.in-Some-field_for.ensures (record_at found bytes) refl refl in
+    let is : IsFor schema c.args.msg.type_no bytes found c.in-Some-field_for.field = found_is_for schema c.args.left c.args.msg.type_no c.args.at bytes found f c.in-Some-field_for.field own.0 own.1 c.in-Ok.ensures.bound.2 in
     (omega arith, (within.0, (within.1, (c.requires.message, (is, (c.requires.short, c.requires.left))))))
 
 pub parse_record-returns-in-Ok-parse_taken-clause-walk : goal.parse_record-returns-in-Ok-parse_taken-clause-walk
@@ -84,19 +99,19 @@ parse_record-returns-in-Ok-parse_taken-clause-walk g t c =
     let bytes = c.args.bytes.now in
     let found = c.in-Ok.found in
     let f = found_at c.args.left c.args.at bytes found c.requires.left c.in-Ok.ensures.exact in
-    let own = c.in-Some.ensures (record_at found bytes) refl refl in
-    found_walk c.args.types.now c.args.left c.args.msg.type_no c.args.at bytes found f c.in-Some.field own.0 own.1 c.in-Ok-parse_taken.ensures.sound
+    let own = c.in-Some-field_for.ensures (record_at found bytes) refl refl in
+    found_walk c.args.types.now c.args.left c.args.msg.type_no c.args.at bytes found f c.in-Some-field_for.field own.0 own.1 c.in-Ok-parse_taken.ensures.sound
 
 pub parse_record-returns-in-Ok-parse_taken-clause-came : goal.parse_record-returns-in-Ok-parse_taken-clause-came
 parse_record-returns-in-Ok-parse_taken-clause-came g t c = λ u feet st.
     let bytes = c.args.bytes.now in
     let found = c.in-Ok.found in
     let f = found_at c.args.left c.args.at bytes found c.requires.left c.in-Ok.ensures.exact in
-    let own = c.in-Some.ensures (record_at found bytes) refl refl in
+    let own = c.in-Some-field_for.ensures (record_at found bytes) refl refl in
     record {
-      shape = with_taken c.args.types.now c.args.left c.args.msg.type_no c.in-Some.field (record_at found bytes) u;
+      shape = with_taken c.args.types.now c.args.left c.args.msg.type_no c.in-Some-field_for.field (record_at found bytes) u;
       stands = c.in-Ok-parse_taken.ensures.put u feet st;
-      goes = λ stop ok. found_goes c.args.types.now c.args.left c.args.msg.type_no c.args.at bytes found f c.schema-schema.ensures.lawful c.in-Some.field own.0 u (pending c.args.unknown.now bytes) stop own.1 c.in-Ok-parse_taken.ensures.sound ok;
+      goes = λ stop ok. found_goes c.args.types.now c.args.left c.args.msg.type_no c.args.at bytes found f c.schema-schema.ensures.lawful c.in-Some-field_for.field own.0 u (pending c.args.unknown.now bytes) stop own.1 c.in-Ok-parse_taken.ensures.sound ok;
     }
 
 pub parse_record-returns-in-Err-clause-stopped : goal.parse_record-returns-in-Err-clause-stopped
@@ -105,9 +120,9 @@ parse_record-returns-in-Err-clause-stopped g t c =
     let bytes = c.args.bytes.now in
     let found = c.in-Ok.found in
     let f = found_at c.args.left c.args.at bytes found c.requires.left c.in-Ok.ensures.exact in
-    let own = c.in-Some.ensures (record_at found bytes) refl refl in
+    let own = c.in-Some-field_for.ensures (record_at found bytes) refl refl in
     same_cause (M.blocks c.parse_taken.new.mem) _ _
-    (found_broken c.args.types.now c.args.left c.args.msg.type_no c.args.at bytes found f c.in-Some.field own.0 own.1 (more_left c.args.at bytes c.requires.at))
+    (found_broken c.args.types.now c.args.left c.args.msg.type_no c.args.at bytes found f c.in-Some-field_for.field own.0 own.1 (more_left c.args.at bytes c.requires.at))
     c.in-Err.halt c.in-Err.ensures.stopped
 
 pub parse_record-returns-in-Ok-add-clause-walk : goal.parse_record-returns-in-Ok-add-clause-walk
