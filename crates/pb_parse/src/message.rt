@@ -158,13 +158,45 @@ fn parse_taken<M: Memory>(
         Kind::Text | Kind::Bytes if listed => append_string(mem, types, msg, bytes, found, field),
         Kind::Text | Kind::Bytes => set_string(mem, types, msg, bytes, found, field),
         _ if listed && found.wire == DELIMITED => append_packed(
-            mem, types, msg, bytes, found, field,
+            mem,
+            types,
+            msg,
+            bytes,
+            copy_record(found),
+            copy_field(field),
         ),
         _ if listed => append_number(mem, types, msg, bytes, found, field),
         _ => {
             set_number(mem, types, msg, bytes, found, field);
             Ok(())
         }
+    }
+}
+
+// The same record, at a place of its own: one whose place is handed out would be kept in memory on every way to here.
+#[inline(always)]
+fn copy_record(found: WireRecord) -> WireRecord
+    ensures { result ≡ found }
+{
+    WireRecord {
+        number: found.number,
+        wire: found.wire,
+        start: found.start,
+        payload: found.payload,
+        payload_len: found.payload_len,
+        end: found.end,
+    }
+}
+
+// The same of a field.
+#[inline(always)]
+fn copy_field(field: FieldType) -> FieldType
+    ensures { result ≡ field }
+{
+    FieldType {
+        number: field.number,
+        kind: field.kind,
+        card: field.card,
     }
 }
 

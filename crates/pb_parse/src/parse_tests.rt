@@ -1,5 +1,5 @@
 // Payloads of `pb.Node`, parsed into two memories: what the messages hold then, and the first fault of damaged bytes.
-ghost use Rattle.std.specs.Prelude.{◌≡◌, IfOk, IfSome};
+ghost use Rattle.std.specs.Prelude.{◌≡◌, ◌<◌, ◌^◌, length, IfOk, IfSome};
 ghost use Rattle.pb_schema.specs.Builtin.{builtin as builtin_schema};
 ghost use Rattle.dyn_message.specs.Fields.{IsMessageIn};
 
@@ -252,6 +252,34 @@ fn damaged_bytes_are_refused(rt: HostRuntime) -> Result<(), Fail> {
             answer,
             "{bytes:?}"
         );
+    }
+    Ok(())
+}
+
+// What a front of a payload is refused with: the first fault of it.
+fn cause(types: &Layouts, bytes: &[u8]) -> Option<ParseFault>
+    requires schema { types.now ≡ builtin_schema }
+    requires short { length bytes.now < 2 ^ 31 }
+{
+    match first_fault(types, NODE, bytes) {
+        Some(fault) => Some(ParseFault::Bad(fault)),
+        None => None,
+    }
+}
+
+#[test]
+fn fronts_that_end_in_a_record_are_refused(rt: HostRuntime) -> Result<(), Fail> {
+    let types = layouts(rt.alloc(), builtin(rt.alloc())?)?;
+    let mut mem = PlainMemory::new(rt.alloc());
+    // A name, a count, marks packed and by one, a child, the node and the word of the oneof, an unknown number and group.
+    let bytes = b"\x0a\x02ab\x10\x05\x22\x03\x01\xac\x02\x20\x07\x1a\x03\x0a\x01x\x42\x02\x10\x03\x3a\x01w\xa0\x06\x01\xa3\x06\x08\x01\xa4\x06";
+    let ends = [0, 4, 6, 11, 13, 18, 22, 25, 28, 34];
+    assert_eq!(rt; bytes.len(), 34);
+    for end in 0..35 {
+        let front = &bytes[..end];
+        let answer = parse(rt.alloc(), &mut mem, &types, front).err();
+        assert_eq!(rt; answer.is_none(), ends.contains(&end), "{end}");
+        assert_eq!(rt; answer, cause(&types, front), "{end}");
     }
     Ok(())
 }
