@@ -66,7 +66,13 @@ pub fn set_scalar_by<M: Memory>(
 
 /// Where the elements of the list of this entry lie, and how many there are, for [`append_scalar_by`].
 #[inline(always)]
-pub fn list_by<M: Memory>(mem: &M, types: &Layouts, msg: MsgRef, field: u32, entry: Entry) -> (Place, u32)
+pub fn list_by<M: Memory>(
+    mem: &M,
+    types: &Layouts,
+    msg: MsgRef,
+    field: u32,
+    entry: Entry,
+) -> (Place, u32)
     requires message { IsMessageIn types.now (M.places mem.now) (M.buffers mem.now) msg }
     requires entry { entry_of types.now msg.type_no field ≡ Some entry }
     requires field { HasList types.now msg.type_no field }

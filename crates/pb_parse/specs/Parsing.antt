@@ -14,6 +14,7 @@ use Rattle.pb_schema.specs.Tree.{Shape}
 use Rattle.pb_wire.specs.declared.wire_record.WireRecord.{WireRecord}
 use Rattle.dyn_message.specs.declared.msg_ref.MsgRef.{MsgRef}
 use Rattle.dyn_message.specs.Feet.{Foot}
+use Rattle.dyn_message.specs.Stands.{Stands}
 use Rattle.dyn_message.specs.Changes.{NowStands}
 use Rattle.pb_parse.specs.declared.stop.Halt.{Halt}
 use Rattle.pb_parse.specs.declared.stop.Halt.TheVariants as halts
@@ -25,6 +26,10 @@ use Rattle.pb_parse.specs.Reading.{finished, walked, record_at}
 abbrev pub fits_kind : ValueType → List ℕ → Bool
 fits_kind Characters s = is_utf8 s
 fits_kind _ s = true
+
+-- for each shape that the message stands for, and what it stands on
+abbrev pub Always : Schema → Places → Buffers → MsgRef → (Shape → List Foot → Type 0) → Type 0
+Always schema places buffers msg P = (t : Shape) (feet : List Foot) → Stands schema places buffers msg t feet → P t feet
 
 -- why a reading stopped: the bytes are broken, or the memory refused
 abbrev pub IsCause : (ℕ → ℕ) → Type 0 → Halt → Type 0

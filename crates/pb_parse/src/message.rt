@@ -9,7 +9,7 @@ ghost use Rattle.dyn_message.specs.Feet.{Foot};
 ghost use Rattle.dyn_message.specs.Stands.{Stands, IsSingle, IsList};
 ghost use Rattle.dyn_message.specs.Changes.{Changes, NowStands};
 ghost use Rattle.dyn_message.specs.Fields.{IsMessageIn, IsMessageType};
-ghost use Rattle.pb_parse.specs.Parsing.{Came, IsCause, IsFor, LiesBefore, pending};
+ghost use Rattle.pb_parse.specs.Parsing.{Always, Came, IsCause, IsFor, LiesBefore, pending};
 ghost use Rattle.pb_parse.specs.Reading.{contents_read, read_left, record_at, walked, with_taken};
 
 use crate::contents::{DELIMITED, is_list, takes_wire};
@@ -52,6 +52,11 @@ pub fn parse_message<M: Memory>(
     let mut unknown = Unknown::before(alloc, start);
     let mut at = start;
     while (at as usize) < bytes.len() {
+        if let Some(short) = short_number(types, msg.type_no, bytes, at) {
+            set_short(mem, types, msg, bytes, at, short);
+            at = short.end;
+            continue;
+        }
         match parse_record(alloc, mem, types, msg, bytes, at, left, &mut unknown) {
             Ok(next) => at = next,
             Err(halt) => return Err(halt),
@@ -83,21 +88,14 @@ fn parse_record<M: Memory>(
     requires whole { (rs : List Record) × Records (pending unknown.old bytes.now) rs }
     ensures bound { IfOk result (λ next. (at < next) × (next ≤ length bytes.now)) }
     ensures walk { IfOk result (λ next. walked types.now left (fields_of types.now msg.type_no) at (drop at bytes.now) ≡ walked types.now left (fields_of types.now msg.type_no) next (drop next bytes.now)) }
-    ensures came { IfOk result (λ next. (t : Shape) (feet : List Foot) → Stands types.now (M.places mem.old) (M.buffers mem.old) msg t feet
-        → Came types.now left (M.places mem.old) (M.buffers mem.old) (M.places mem.new) (M.buffers mem.new) msg bytes.now at next (pending unknown.old bytes.now) (pending unknown.new bytes.now) t feet) }
+    ensures came { IfOk result (λ next. Always types.now (M.places mem.old) (M.buffers mem.old) msg (Came types.now left (M.places mem.old) (M.buffers mem.old) (M.places mem.new) (M.buffers mem.new) msg bytes.now at next (pending unknown.old bytes.now) (pending unknown.new bytes.now))) }
     ensures lies { IfOk result (LiesBefore unknown.new bytes.now) }
     ensures whole { IfOk result (λ next. (rs : List Record) × Records (pending unknown.new bytes.now) rs) }
-    ensures few { IfOk result (λ next. (t : Shape) (feet : List Foot) → Stands types.now (M.places mem.old) (M.buffers mem.old) msg t feet
-        → Changes M.key M.places M.buffers M.blocks (4 * (next - at)) (4 * (next - at)) feet mem.old mem.new) }
+    ensures few { IfOk result (λ next. Always types.now (M.places mem.old) (M.buffers mem.old) msg (λ t feet. Changes M.key M.places M.buffers M.blocks (4 * (next - at)) (4 * (next - at)) feet mem.old mem.new)) }
     ensures stopped { IfErr result (IsCause (M.blocks mem.new) (IsErr (walked types.now left (fields_of types.now msg.type_no) at (drop at bytes.now)))) }
-    ensures changes { (t : Shape) (feet : List Foot) → Stands types.now (M.places mem.old) (M.buffers mem.old) msg t feet
-        → Changes M.key M.places M.buffers M.blocks (4 * (length bytes.now - at)) (4 * (length bytes.now - at)) feet mem.old mem.new }
+    ensures changes { Always types.now (M.places mem.old) (M.buffers mem.old) msg (λ t feet. Changes M.key M.places M.buffers M.blocks (4 * (length bytes.now - at)) (4 * (length bytes.now - at)) feet mem.old mem.new) }
 {
     let _schema = types.schema();
-    if let Some(short) = short_number(types, msg.type_no, bytes, at) {
-        set_short(mem, types, msg, bytes, at, short);
-        return Ok(short.end);
-    }
     let Ok(found) = read_record(bytes, at, MOST_LEVELS - left) else {
         return Err(Halt::Bad);
     };
@@ -157,14 +155,10 @@ fn parse_taken<M: Memory>(
         Kind::Message(_) => parse_sub(alloc, mem, types, msg, bytes, found, field, left),
         Kind::Text | Kind::Bytes if listed => append_string(mem, types, msg, bytes, found, field),
         Kind::Text | Kind::Bytes => set_string(mem, types, msg, bytes, found, field),
-        _ if listed && found.wire == DELIMITED => append_packed(
-            mem,
-            types,
-            msg,
-            bytes,
-            copy_record(found),
-            copy_field(field),
-        ),
+        _ if listed && found.wire == DELIMITED => {
+            let (own, its) = (copy_record(found), copy_field(field));
+            append_packed(mem, types, msg, bytes, own, its)
+        }
         _ if listed => append_number(mem, types, msg, bytes, found, field),
         _ => {
             set_number(mem, types, msg, bytes, found, field);

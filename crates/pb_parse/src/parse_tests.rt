@@ -272,7 +272,8 @@ fn fronts_that_end_in_a_record_are_refused(rt: HostRuntime) -> Result<(), Fail> 
     let types = layouts(rt.alloc(), builtin(rt.alloc())?)?;
     let mut mem = PlainMemory::new(rt.alloc());
     // A name, a count, marks packed and by one, a child, the node and the word of the oneof, an unknown number and group.
-    let bytes = b"\x0a\x02ab\x10\x05\x22\x03\x01\xac\x02\x20\x07\x1a\x03\x0a\x01x\x42\x02\x10\x03\x3a\x01w\xa0\x06\x01\xa3\x06\x08\x01\xa4\x06";
+    let bytes =
+        b"\x0a\x02ab\x10\x05\x22\x03\x01\xac\x02\x20\x07\x1a\x03\x0a\x01x\x42\x02\x10\x03\x3a\x01w\xa0\x06\x01\xa3\x06\x08\x01\xa4\x06";
     let ends = [0, 4, 6, 11, 13, 18, 22, 25, 28, 34];
     assert_eq!(rt; bytes.len(), 34);
     for end in 0..35 {

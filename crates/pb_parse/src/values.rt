@@ -18,7 +18,8 @@ use crate::stop::Halt;
 use crate::unknown::MOST_ELEMENTS;
 use arena_mem::{MemFault, Memory, Place};
 use dyn_message::{
-    MsgRef, append_bytes, append_scalar, append_scalar_by, count, entry_in, list_by, set_bytes, set_scalar,
+    MsgRef, append_bytes, append_scalar, append_scalar_by, count, entry_in, list_by, set_bytes,
+    set_scalar,
 };
 use msg_layout::Entry;
 use msg_layout::tables::Layouts;

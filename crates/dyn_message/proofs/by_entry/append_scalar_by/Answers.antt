@@ -117,4 +117,3 @@ returns-clause-changes g c = λ t feet st.
     (c.write.ensures.key ∙ c.set_number.ensures.key) (c.write.ensures.count ∙ c.set_number.ensures.count) (λ q live. c.write.ensures.still_live q (c.set_number.ensures.still_live q live))
     (same ∙ c.set_number.ensures.buffers) (λ region. c.write.ensures.blocks region ∙ c.set_number.ensures.blocks region)
     (subst (λ b. KeepsOthers (M.places c.args.mem.now) (M.buffers c.args.mem.now) (M.places c.write.new.self) b feet) (sym all_same) a.keeps)
-

@@ -1,4 +1,4 @@
-use Rattle.std.proofs.Common.{◌≡◌, ◌+◌, ◌-◌, ◌*◌, ◌≤◌, List, [], length, drop, take, refl, sym, ap, ◌∙◌, subst, arith, length-take-le}
+use Rattle.std.proofs.Common.{◌≡◌, ◌+◌, ◌-◌, ◌*◌, ◌≤◌, ◌<◌, List, [], length, drop, take, refl, sym, ap, ◌∙◌, subst, arith, length-take-le}
 use Rattle.pb_schema.specs.Fits.{fields_of}
 use Rattle.pb_schema.specs.Kinds.{value_type_of}
 use Rattle.pb_schema.specs.Records.{Record, Records}
@@ -42,6 +42,40 @@ parse_message-loop-at-preserved g t c =
           (omega (arith, inv.from, bound.0)) (omega (arith, inv.from, bound.0));
     }
 
+pub parse_message-short_number-requires-clause-known : goal.parse_message-short_number-requires-clause-known
+parse_message-short_number-requires-clause-known g t c =
+    let M = g.M.Memory in
+    (some_record c.args.types.now (M.places c.loop-at.mem) (M.buffers c.loop-at.mem) c.args.msg c.loop-at.invariant.message).type
+
+pub parse_message-loop-at-preserved-in-Some : goal.parse_message-loop-at-preserved-in-Some
+parse_message-loop-at-preserved-in-Some g t c =
+    let M = g.M.Memory in
+    let schema = c.args.types.now in
+    let inv = c.loop-at.invariant in
+    let first = c.requires.message in
+    let p = inv.came first.0 first.1 first.2 in
+    let short = c.in-Some.short in
+    let s = c.in-Some.ensures in
+    let d = c.set_short.ensures.came c.args.left (pending c.loop-at.unknown c.args.bytes.now) p.shape p.stands.now p.stands.stands in
+    let after : c.loop-at.at < short.end = omega (arith, s.tag, s.some) in
+    record {
+      message = (d.shape, d.stands.now, d.stands.stands);
+      from = omega (arith, inv.from, after);
+      lies = record { ordered = inv.lies.ordered; before = omega (arith, inv.lies.before, after); within = s.within; few = omega (arith, inv.lies.few, after) };
+      whole = inv.whole;
+      walk = inv.walk ∙ c.set_short.ensures.walk c.args.left;
+      came = λ u feet st.
+          let q = inv.came u feet st in
+          came_more schema c.args.left (M.places c.args.mem.now) (M.places c.loop-at.mem) (M.places c.set_short.new.mem) (M.buffers c.args.mem.now) (M.buffers c.loop-at.mem) (M.buffers c.set_short.new.mem) c.args.msg c.args.bytes.now c.args.start c.loop-at.at short.end
+          [] _ _ u feet (inv.changes u feet st).still_there q (c.set_short.ensures.came c.args.left (pending c.loop-at.unknown c.args.bytes.now) q.shape q.stands.now q.stands.stands) (c.set_short.ensures.walk c.args.left);
+      changes = λ u feet st.
+          let q = inv.came u feet st in
+          then_within M.key M.places M.buffers M.blocks (4 * (c.loop-at.at - c.args.start)) 0 (4 * (c.loop-at.at - c.args.start)) 0 (4 * (short.end - c.args.start)) (4 * (short.end - c.args.start))
+          feet q.stands.now c.args.mem.now c.loop-at.mem c.set_short.new.mem (inv.changes u feet st) q.stands.from
+          (record_changes M.key M.places M.buffers M.blocks 0 0 0 0 schema c.args.msg q.shape q.stands.now c.loop-at.mem c.set_short.new.mem q.stands.stands c.set_short.ensures.changes (omega arith) (omega arith))
+          (omega (arith, inv.from, after)) (omega (arith, inv.from, after));
+    }
+
 pub parse_message-returns-in-Ok-append_pending-clause-stands : goal.parse_message-returns-in-Ok-append_pending-clause-stands
 parse_message-returns-in-Ok-append_pending-clause-stands g t c = λ u feet st.
     let M = g.M.Memory in
@@ -60,24 +94,9 @@ parse_message-returns-in-Ok-append_pending-clause-sound g t c =
 
 -- RECORDS
 
-pub parse_record-short_number-requires-clause-known : goal.parse_record-short_number-requires-clause-known
-parse_record-short_number-requires-clause-known g t c =
-    let M = g.M.Memory in
-    (some_record c.args.types.now (M.places c.args.mem.now) (M.buffers c.args.mem.now) c.args.msg c.requires.message).type
-
-pub parse_record-returns-in-Some-clause-few : goal.parse_record-returns-in-Some-clause-few
-parse_record-returns-in-Some-clause-few g t c = λ u feet st.
-    let M = g.M.Memory in
-    record_changes M.key M.places M.buffers M.blocks 0 (4 * (c.in-Some.short.end - c.args.at)) 0 (4 * (c.in-Some.short.end - c.args.at)) c.args.types.now c.args.msg u feet c.args.mem.now c.set_short.new.mem st c.set_short.ensures.changes (omega arith) (omega arith)
-
-pub parse_record-returns-in-Some-clause-changes : goal.parse_record-returns-in-Some-clause-changes
-parse_record-returns-in-Some-clause-changes g t c = λ u feet st.
-    let M = g.M.Memory in
-    record_changes M.key M.places M.buffers M.blocks 0 (4 * (length c.args.bytes.now - c.args.at)) 0 (4 * (length c.args.bytes.now - c.args.at)) c.args.types.now c.args.msg u feet c.args.mem.now c.set_short.new.mem st c.set_short.ensures.changes (omega arith) (omega arith)
-
-pub parse_record-returns-in_default-read_record-clause-stopped : goal.parse_record-returns-in_default-read_record-clause-stopped
-parse_record-returns-in_default-read_record-clause-stopped g t c =
-    none_at c.args.types.now c.args.left c.args.at c.args.bytes.now c.args.msg.type_no c.in_default-read_record.field-0 c.requires.left c.requires.at c.in_default-read_record.ensures.exact
+pub parse_record-returns-in_default-clause-stopped : goal.parse_record-returns-in_default-clause-stopped
+parse_record-returns-in_default-clause-stopped g t c =
+    none_at c.args.types.now c.args.left c.args.at c.args.bytes.now c.args.msg.type_no c.in_default.field-0 c.requires.left c.requires.at c.in_default.ensures.exact
 
 pub parse_record-field_for-requires : goal.parse_record-field_for-requires
 parse_record-field_for-requires g t c =
@@ -90,8 +109,8 @@ parse_record-parse_taken-requires g t c κs within =
     let bytes = c.args.bytes.now in
     let found = c.in-Ok.found in
     let f = found_at c.args.left c.args.at bytes found c.requires.left c.in-Ok.ensures.exact in
-    let own = c.in-Some-field_for.ensures (record_at found bytes) refl refl in
-    let is : IsFor schema c.args.msg.type_no bytes found c.in-Some-field_for.field = found_is_for schema c.args.left c.args.msg.type_no c.args.at bytes found f c.in-Some-field_for.field own.0 own.1 c.in-Ok.ensures.bound.2 in
+    let own = c.in-Some.ensures (record_at found bytes) refl refl in
+    let is : IsFor schema c.args.msg.type_no bytes found c.in-Some.field = found_is_for schema c.args.left c.args.msg.type_no c.args.at bytes found f c.in-Some.field own.0 own.1 c.in-Ok.ensures.bound.2 in
     (omega arith, (within.0, (within.1, (c.requires.message, (is, (c.requires.short, c.requires.left))))))
 
 pub parse_record-returns-in-Ok-parse_taken-clause-walk : goal.parse_record-returns-in-Ok-parse_taken-clause-walk
@@ -99,19 +118,19 @@ parse_record-returns-in-Ok-parse_taken-clause-walk g t c =
     let bytes = c.args.bytes.now in
     let found = c.in-Ok.found in
     let f = found_at c.args.left c.args.at bytes found c.requires.left c.in-Ok.ensures.exact in
-    let own = c.in-Some-field_for.ensures (record_at found bytes) refl refl in
-    found_walk c.args.types.now c.args.left c.args.msg.type_no c.args.at bytes found f c.in-Some-field_for.field own.0 own.1 c.in-Ok-parse_taken.ensures.sound
+    let own = c.in-Some.ensures (record_at found bytes) refl refl in
+    found_walk c.args.types.now c.args.left c.args.msg.type_no c.args.at bytes found f c.in-Some.field own.0 own.1 c.in-Ok-parse_taken.ensures.sound
 
 pub parse_record-returns-in-Ok-parse_taken-clause-came : goal.parse_record-returns-in-Ok-parse_taken-clause-came
 parse_record-returns-in-Ok-parse_taken-clause-came g t c = λ u feet st.
     let bytes = c.args.bytes.now in
     let found = c.in-Ok.found in
     let f = found_at c.args.left c.args.at bytes found c.requires.left c.in-Ok.ensures.exact in
-    let own = c.in-Some-field_for.ensures (record_at found bytes) refl refl in
+    let own = c.in-Some.ensures (record_at found bytes) refl refl in
     record {
-      shape = with_taken c.args.types.now c.args.left c.args.msg.type_no c.in-Some-field_for.field (record_at found bytes) u;
+      shape = with_taken c.args.types.now c.args.left c.args.msg.type_no c.in-Some.field (record_at found bytes) u;
       stands = c.in-Ok-parse_taken.ensures.put u feet st;
-      goes = λ stop ok. found_goes c.args.types.now c.args.left c.args.msg.type_no c.args.at bytes found f c.schema-schema.ensures.lawful c.in-Some-field_for.field own.0 u (pending c.args.unknown.now bytes) stop own.1 c.in-Ok-parse_taken.ensures.sound ok;
+      goes = λ stop ok. found_goes c.args.types.now c.args.left c.args.msg.type_no c.args.at bytes found f c.schema-schema.ensures.lawful c.in-Some.field own.0 u (pending c.args.unknown.now bytes) stop own.1 c.in-Ok-parse_taken.ensures.sound ok;
     }
 
 pub parse_record-returns-in-Err-clause-stopped : goal.parse_record-returns-in-Err-clause-stopped
@@ -120,9 +139,9 @@ parse_record-returns-in-Err-clause-stopped g t c =
     let bytes = c.args.bytes.now in
     let found = c.in-Ok.found in
     let f = found_at c.args.left c.args.at bytes found c.requires.left c.in-Ok.ensures.exact in
-    let own = c.in-Some-field_for.ensures (record_at found bytes) refl refl in
+    let own = c.in-Some.ensures (record_at found bytes) refl refl in
     same_cause (M.blocks c.parse_taken.new.mem) _ _
-    (found_broken c.args.types.now c.args.left c.args.msg.type_no c.args.at bytes found f c.in-Some-field_for.field own.0 own.1 (more_left c.args.at bytes c.requires.at))
+    (found_broken c.args.types.now c.args.left c.args.msg.type_no c.args.at bytes found f c.in-Some.field own.0 own.1 (more_left c.args.at bytes c.requires.at))
     c.in-Err.halt c.in-Err.ensures.stopped
 
 pub parse_record-returns-in-Ok-add-clause-walk : goal.parse_record-returns-in-Ok-add-clause-walk
