@@ -2,6 +2,7 @@ pub mod Gaining
 pub mod Parts
 pub mod Lists
 pub mod Singles
+pub mod Unset
 pub mod Records
 pub mod Depths
 pub mod Values

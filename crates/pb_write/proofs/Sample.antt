@@ -1,5 +1,5 @@
 -- The node that the tests write, step by step, with its units and its text.
-use Rattle.std.proofs.Common.{◌≡◌, ◌+◌, ◌*◌, ◌^◌, ◌≤◌, ◌<◌, ℕ, List, [], ◌∷◌, length, refl, sym, ap, ◌∙◌, subst, arith}
+use Rattle.std.proofs.Common.{◌≡◌, ◌+◌, ◌^◌, ◌≤◌, ◌<◌, ℕ, List, [], ◌∷◌, length, refl, sym, ap, ◌∙◌, subst, arith}
 use Rattle.std.proofs.lemmas.Option.{same_Some}
 use Rattle.pb_schema.specs.declared.kind.FieldType.{FieldType}
 use Rattle.pb_schema.specs.declared.schema.Schema.{Schema}
@@ -7,13 +7,12 @@ use Rattle.pb_schema.specs.Builtin.{builtin}
 use Rattle.pb_schema.specs.Empty.{empty_with}
 use Rattle.pb_schema.specs.Fits.{fields_of}
 use Rattle.pb_schema.specs.HeldAt.{held_at, with_held}
-use Rattle.pb_schema.specs.Kinds.{ValueType, Nested, value_type_of}
+use Rattle.pb_schema.specs.Kinds.{Nested, value_type_of}
 use Rattle.pb_schema.specs.Tree.{Number, Sub, One, Shape}
 use Rattle.pb_schema.specs.Units.{tree_units}
-use Rattle.dyn_message.specs.Fields.{HasField, number_put, bytes_put}
+use Rattle.dyn_message.specs.Fields.{number_put, bytes_put}
 use Rattle.dyn_message.specs.Links.{LinksTo, sub_or}
 use Rattle.dyn_message.specs.Lists.{with_appended}
-use Rattle.dyn_message.specs.Stands.{IsSingle}
 use Rattle.dyn_message.specs.Unknown.{with_piece}
 use Rattle.pb_write.specs.Texts.{shape_text}
 use Rattle.pb_write.proofs.Short.{joined_length, tree_few}

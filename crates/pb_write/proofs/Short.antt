@@ -1,6 +1,6 @@
 -- A message's text has at most thirty bytes for each of its units: a varint has at most ten, and a value stands behind
 -- two of them at most, its tag and its length, or is one.
-use Rattle.std.proofs.Common.{◌≡◌, ◌+◌, ◌*◌, ◌/◌, ◌%◌, ◌≤◌, ◌<◌, ℕ, zero, suc, cond, ltb, Bool, true, false, List, [], ◌∷◌, ◌++◌, length, refl, sym, ap, ◌∙◌, subst, length-append, arith}
+use Rattle.std.proofs.Common.{◌+◌, ◌*◌, ◌/◌, ◌%◌, ◌≤◌, ℕ, zero, suc, cond, ltb, Bool, true, false, List, [], ◌∷◌, ◌++◌, length, length-append, arith}
 use Rattle.std.specs.List.{concat}
 use Rattle.pb_schema.specs.declared.kind.FieldType.{FieldType}
 use Rattle.pb_schema.specs.declared.schema.Schema.{Schema}
@@ -9,7 +9,7 @@ use Rattle.pb_schema.specs.Fits.{nested_fields, wire_of}
 use Rattle.pb_schema.specs.Kinds.{ValueType, Scalar, Characters, Octets, Nested, value_type_of}
 use Rattle.pb_schema.specs.Tag.{tag_of}
 use Rattle.pb_schema.specs.Text.{framed, packed_text, number_text, spelled_text, field_tag, value_text, held_text, values_text, fields_text, message_text}
-use Rattle.pb_schema.specs.Tree.{ValueWith, Number, Bytes, Sub, HeldWith, Nothing, One, Many, TreeWith, Shape, Message, ValueListWith, NoValues, ValueAnd, HeldListWith, NoFields, FieldAnd, values_in_list, value_map, held_map, values_map, fields_map, tree_map}
+use Rattle.pb_schema.specs.Tree.{ValueWith, Number, Bytes, Sub, HeldWith, Nothing, One, Many, Shape, Message, ValueListWith, NoValues, ValueAnd, HeldListWith, NoFields, FieldAnd, values_in_list, value_map, held_map, values_map, fields_map, tree_map}
 use Rattle.pb_schema.specs.Units.{value_units, held_units, values_units, fields_units, tree_units}
 use Rattle.pb_schema.specs.Varint.{groups, varint_of}
 use Rattle.pb_schema.proofs.TextCuts.{length_low}

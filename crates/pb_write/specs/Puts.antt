@@ -3,11 +3,12 @@ use Rattle.std.specs.Prelude.{◌≡◌, ◌+◌, ◌≤◌, ◌<◌, ◌^◌, �
 use Rattle.pb_schema.specs.declared.kind.Card.TheVariants as cards
 use Rattle.pb_schema.specs.declared.kind.FieldType.{FieldType}
 use Rattle.pb_schema.specs.Kinds.{ValueType, Scalar, Nested, value_type_of}
+use Rattle.pb_schema.specs.Cards.{is_repeated}
 use Rattle.pb_schema.specs.Text.{field_tag}
 use Rattle.msg_layout.specs.declared.entry.Entry.{Entry}
-use Rattle.msg_layout.specs.Slots.{slot_bytes, is_message}
+use Rattle.msg_layout.specs.Slots.{slot_bytes, array_slot, is_message}
 use Rattle.msg_layout.specs.Sound.{MarkWithin}
-use Rattle.dyn_message.specs.Slots.{word, number_in, place_in, slot_in, told_in, set_by}
+use Rattle.dyn_message.specs.Slots.{word, number_in, part, place_in, slot_in, told_in, set_by}
 use Rattle.dyn_message.specs.Stands.{IsSingle}
 
 -- TARGETS
@@ -36,6 +37,10 @@ slot_tells _ slot = not (word 5 slot == 0)
 -- the field of one value is set
 abbrev pub is_held : Entry → List ℕ → Bool
 is_held entry bytes = set_by (told_in entry bytes) (slot_tells (value_type_of entry.field.kind) (slot_in entry bytes))
+
+-- the field holds something: a list an element, and any other a value
+abbrev pub holds_some : Entry → List ℕ → Bool
+holds_some entry bytes = if is_repeated entry.field.card then not (word 4 (part entry.slot array_slot bytes) == 0) else is_held entry bytes
 
 -- what stands before each value of a list: nothing where they are packed, and else the tag
 abbrev pub front_of : Bool → FieldType → List ℕ

@@ -15,9 +15,9 @@ ghost use Rattle.dyn_message.specs.Arrays.{HoldsArray};
 ghost use Rattle.dyn_message.specs.Feet.{Foot};
 ghost use Rattle.dyn_message.specs.Slots.{part, slot_in, told_in};
 ghost use Rattle.dyn_message.specs.Stands.{IsSingle, ValueStands, ValuesStand, HeldStands, FieldsStand, MessageStands, PiecesStand};
-ghost use Rattle.pb_write.specs.Puts.{Gains, IsEntryIn, is_held, slot_tells, front_of, fields_in};
+ghost use Rattle.pb_write.specs.Puts.{Gains, IsEntryIn, is_held, holds_some, slot_tells, front_of, fields_in};
 
-use crate::number::put_number;
+use crate::number::{put_number, put_numbers};
 use crate::target::Target;
 use arena_mem::Memory;
 use dyn_message::{MsgRef, bytes_in, is_set, link_at, list_at, number_at, slot_at, word};
@@ -82,7 +82,7 @@ fn put_pieces<M: Memory, T: Target>(
     Ok(())
 }
 
-// Puts what the fields of some entries hold.
+// Puts what the fields of some entries hold. Most hold nothing, and those are passed over without a call.
 #[cycle(backwards)]
 fn put_fields<M: Memory, T: Target>(
     mem: &M,
@@ -97,10 +97,13 @@ fn put_fields<M: Memory, T: Target>(
     ensures { (held : HeldListWith (List (List ℕ))) (feet : List Foot) → FieldsStand types.now (M.places mem.now) (M.buffers mem.now) bytes.now entries.now held feet
         → OnOk result (Gains (T.holds target.old) (T.holds target.new) (fields_text types.now (fields_in entries.now) (fields_map concat held))) }
 {
+    let _schema = types.schema();
     let mut i = entries.len();
     'fields: while i > 0 {
         i -= 1;
-        put_field(mem, types, bytes, entries[i], left, target)?;
+        if holds_some(bytes, &entries[i]) {
+            put_field(mem, types, bytes, &entries[i], left, target)?;
+        }
     }
     Ok(())
 }
@@ -111,14 +114,14 @@ pub(crate) fn put_field<M: Memory, T: Target>(
     mem: &M,
     types: &Layouts,
     bytes: &[u8],
-    entry: Entry,
+    entry: &Entry,
     left: u64,
     target: &mut T,
 ) -> Result<(), T::Refusal>
-    requires within { IsEntryIn entry bytes.now }
-    requires stand { (held : HeldWith (List (List ℕ))) × (feet : List Foot) × HeldStands types.now (M.places mem.now) (M.buffers mem.now) entry.field (told_in entry bytes.now) (slot_in entry bytes.now) held feet × (held_levels held ≤ left) }
-    ensures { (held : HeldWith (List (List ℕ))) (feet : List Foot) → HeldStands types.now (M.places mem.now) (M.buffers mem.now) entry.field (told_in entry bytes.now) (slot_in entry bytes.now) held feet
-        → OnOk result (Gains (T.holds target.old) (T.holds target.new) (held_text types.now entry.field (held_map concat held))) }
+    requires within { IsEntryIn entry.now bytes.now }
+    requires stand { (held : HeldWith (List (List ℕ))) × (feet : List Foot) × HeldStands types.now (M.places mem.now) (M.buffers mem.now) entry.now.field (told_in entry.now bytes.now) (slot_in entry.now bytes.now) held feet × (held_levels held ≤ left) }
+    ensures { (held : HeldWith (List (List ℕ))) (feet : List Foot) → HeldStands types.now (M.places mem.now) (M.buffers mem.now) entry.now.field (told_in entry.now bytes.now) (slot_in entry.now bytes.now) held feet
+        → OnOk result (Gains (T.holds target.old) (T.holds target.new) (held_text types.now entry.now.field (held_map concat held))) }
 {
     match entry.field.card {
         Card::Repeated { packed } => put_list(mem, types, bytes, entry, packed, left, target),
@@ -132,15 +135,15 @@ fn put_single<M: Memory, T: Target>(
     mem: &M,
     types: &Layouts,
     bytes: &[u8],
-    entry: Entry,
+    entry: &Entry,
     left: u64,
     target: &mut T,
 ) -> Result<(), T::Refusal>
-    requires single { IsSingle entry.field.card }
-    requires within { IsEntryIn entry bytes.now }
-    requires stand { (held : HeldWith (List (List ℕ))) × (feet : List Foot) × HeldStands types.now (M.places mem.now) (M.buffers mem.now) entry.field (told_in entry bytes.now) (slot_in entry bytes.now) held feet × (held_levels held ≤ left) }
-    ensures { (held : HeldWith (List (List ℕ))) (feet : List Foot) → HeldStands types.now (M.places mem.now) (M.buffers mem.now) entry.field (told_in entry bytes.now) (slot_in entry bytes.now) held feet
-        → OnOk result (Gains (T.holds target.old) (T.holds target.new) (held_text types.now entry.field (held_map concat held))) }
+    requires single { IsSingle entry.now.field.card }
+    requires within { IsEntryIn entry.now bytes.now }
+    requires stand { (held : HeldWith (List (List ℕ))) × (feet : List Foot) × HeldStands types.now (M.places mem.now) (M.buffers mem.now) entry.now.field (told_in entry.now bytes.now) (slot_in entry.now bytes.now) held feet × (held_levels held ≤ left) }
+    ensures { (held : HeldWith (List (List ℕ))) (feet : List Foot) → HeldStands types.now (M.places mem.now) (M.buffers mem.now) entry.now.field (told_in entry.now bytes.now) (slot_in entry.now bytes.now) held feet
+        → OnOk result (Gains (T.holds target.old) (T.holds target.new) (held_text types.now entry.now.field (held_map concat held))) }
 {
     let _schema = types.schema();
     if !is_held(bytes, entry) {
@@ -156,16 +159,16 @@ fn put_list<M: Memory, T: Target>(
     mem: &M,
     types: &Layouts,
     bytes: &[u8],
-    entry: Entry,
+    entry: &Entry,
     packed: bool,
     left: u64,
     target: &mut T,
 ) -> Result<(), T::Refusal>
-    requires list { entry.field.card ≡ Repeated packed }
-    requires within { IsEntryIn entry bytes.now }
-    requires stand { (held : HeldWith (List (List ℕ))) × (feet : List Foot) × HeldStands types.now (M.places mem.now) (M.buffers mem.now) entry.field (told_in entry bytes.now) (slot_in entry bytes.now) held feet × (held_levels held ≤ left) }
-    ensures { (held : HeldWith (List (List ℕ))) (feet : List Foot) → HeldStands types.now (M.places mem.now) (M.buffers mem.now) entry.field (told_in entry bytes.now) (slot_in entry bytes.now) held feet
-        → OnOk result (Gains (T.holds target.old) (T.holds target.new) (held_text types.now entry.field (held_map concat held))) }
+    requires list { entry.now.field.card ≡ Repeated packed }
+    requires within { IsEntryIn entry.now bytes.now }
+    requires stand { (held : HeldWith (List (List ℕ))) × (feet : List Foot) × HeldStands types.now (M.places mem.now) (M.buffers mem.now) entry.now.field (told_in entry.now bytes.now) (slot_in entry.now bytes.now) held feet × (held_levels held ≤ left) }
+    ensures { (held : HeldWith (List (List ℕ))) (feet : List Foot) → HeldStands types.now (M.places mem.now) (M.buffers mem.now) entry.now.field (told_in entry.now bytes.now) (slot_in entry.now bytes.now) held feet
+        → OnOk result (Gains (T.holds target.old) (T.holds target.new) (held_text types.now entry.now.field (held_map concat held))) }
 {
     let (array, count) = list_at(bytes, entry.slot);
     if count == 0 {
@@ -197,6 +200,33 @@ fn put_list<M: Memory, T: Target>(
 /// Puts so many values, which lie one behind the other in these bytes, each behind its tag where they aren't packed.
 #[cycle(backwards)]
 pub(crate) fn put_elements<M: Memory, T: Target>(
+    mem: &M,
+    types: &Layouts,
+    elements: &[u8],
+    count: u32,
+    field: FieldType,
+    packed: bool,
+    left: u64,
+    target: &mut T,
+) -> Result<(), T::Refusal>
+    requires within { count * slot_of (value_type_of field.kind) ≤ length elements.now }
+    requires few { count ≤ 2 ^ 26 }
+    requires number { field.number < 2 ^ 29 }
+    requires stand { (values : ValueListWith (List (List ℕ))) × (feet : List Foot) × ValuesStand types.now (M.places mem.now) (M.buffers mem.now) (value_type_of field.kind) elements.now values feet × (length (values_in_list values) ≡ count) × (values_levels values ≤ left) }
+    ensures { (values : ValueListWith (List (List ℕ))) (feet : List Foot) → ValuesStand types.now (M.places mem.now) (M.buffers mem.now) (value_type_of field.kind) elements.now values feet → length (values_in_list values) ≡ count
+        → OnOk result (Gains (T.holds target.old) (T.holds target.new) (values_text types.now field (front_of packed field) (values_map concat values))) }
+{
+    match field.kind {
+        Kind::Message(_) | Kind::Text | Kind::Bytes => put_values(
+            mem, types, elements, count, field, packed, left, target,
+        ),
+        _ => put_numbers(elements, count, field, packed, target),
+    }
+}
+
+// The same, value by value, for any kind.
+#[cycle(backwards)]
+fn put_values<M: Memory, T: Target>(
     mem: &M,
     types: &Layouts,
     elements: &[u8],
@@ -291,7 +321,11 @@ fn put_tag<T: Target>(field: FieldType, target: &mut T) -> Result<(), T::Refusal
 
 // Puts the tag of a field's records, where a list isn't packed.
 #[inline]
-fn put_front<T: Target>(field: FieldType, packed: bool, target: &mut T) -> Result<(), T::Refusal>
+pub(crate) fn put_front<T: Target>(
+    field: FieldType,
+    packed: bool,
+    target: &mut T,
+) -> Result<(), T::Refusal>
     requires { field.number < 2 ^ 29 }
     ensures { OnOk result (Gains (T.holds target.old) (T.holds target.new) (front_of packed field)) }
 {
@@ -317,16 +351,28 @@ pub(crate) fn wire_of(kind: Kind) -> u32
 
 /// Whether a field of one value is set.
 #[inline]
-pub(crate) fn is_held(bytes: &[u8], entry: Entry) -> bool
-    requires single { IsSingle entry.field.card }
-    requires within { IsEntryIn entry bytes.now }
-    ensures { result ≡ is_held entry bytes.now }
+pub(crate) fn is_held(bytes: &[u8], entry: &Entry) -> bool
+    requires single { IsSingle entry.now.field.card }
+    requires within { IsEntryIn entry.now bytes.now }
+    ensures { result ≡ is_held entry.now bytes.now }
 {
     is_set(
         bytes,
-        entry,
+        *entry,
         slot_tells(bytes, entry.slot, entry.field.kind),
     )
+}
+
+// Whether a field holds something: a list an element, and any other a value.
+#[inline]
+fn holds_some(bytes: &[u8], entry: &Entry) -> bool
+    requires { IsEntryIn entry.now bytes.now }
+    ensures { result ≡ holds_some entry.now bytes.now }
+{
+    match entry.field.card {
+        Card::Repeated { .. } => list_at(bytes, entry.slot).1 != 0,
+        _ => is_held(bytes, entry),
+    }
 }
 
 // Whether the slot at this place isn't that of none.

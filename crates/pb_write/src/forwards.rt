@@ -127,7 +127,7 @@ fn write_field<M: Memory, S: Sink>(
     ensures sent { Sends (S.taken sink.old) (S.taken sink.new) (S.faults sink.old) (S.faults sink.new) result }
 {
     room.clear();
-    if let Ok(()) = put_field(mem, types, bytes, entry, left, room) {
+    if let Ok(()) = put_field(mem, types, bytes, &entry, left, room) {
         return gather(room.text(), out, sink);
     }
     match entry.field.card {
@@ -159,7 +159,7 @@ fn write_single<M: Memory, S: Sink>(
     ensures sent { Sends (S.taken sink.old) (S.taken sink.new) (S.faults sink.old) (S.faults sink.new) result }
 {
     let _schema = types.schema();
-    if !is_held(bytes, entry) {
+    if !is_held(bytes, &entry) {
         return Ok(());
     }
     gather_tag(entry.field, out, sink)?;

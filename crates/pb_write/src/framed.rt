@@ -31,17 +31,18 @@ impl TextRooms {
         }
     }
 
-    /// Hands over what waits. Where the sink failed, a front of it was taken that isn't the whole.
+    /// Hands over what waits, so that nothing does afterwards. Where the sink failed, a front of it was taken that isn't
+    /// the whole, and the rest is given up.
     pub fn flush<S: Sink>(&mut self, sink: &mut S) -> Result<(), Failed>
         ensures ok { OnOk result (Appends (S.taken sink.old) (S.taken sink.new) (waiting_in self.old)) }
         ensures err { OnErr result (TookPart (S.taken sink.old) (S.taken sink.new) (waiting_in self.old)) }
-        ensures emptied { OnOk result (waiting_in self.new ≡ []) }
+        ensures emptied { waiting_in self.new ≡ [] }
         ensures longer { KeepsTaken (S.taken sink.old) (S.taken sink.new) }
         ensures cause { HasCause (S.faults sink.old) (S.faults sink.new) result }
     {
-        hand_over(self.out.text(), sink)?;
+        let sent = hand_over(self.out.text(), sink);
         self.out.clear();
-        Ok(())
+        sent
     }
 }
 
@@ -58,9 +59,10 @@ pub fn write_framed<M: Memory, S: Sink>(
     requires { IsWritable types.now (M.places mem.now) (M.buffers mem.now) msg }
     ensures written { (t : Shape) (feet : List Foot) → Stands types.now (M.places mem.now) (M.buffers mem.now) msg t feet → length (shape_text types.now msg.type_no t) < 2 ^ 62
         → Writes (S.taken sink.old) (waiting_in rooms.old) (S.taken sink.new) (waiting_in rooms.new) result (framed (shape_text types.now msg.type_no t)) }
+    ensures emptied { OnErr result (waiting_in rooms.new ≡ []) }
     ensures sent { Sends (S.taken sink.old) (S.taken sink.new) (S.faults sink.old) (S.faults sink.new) result }
 {
-    write_nested(
+    let written = write_nested(
         mem,
         types,
         msg,
@@ -68,5 +70,12 @@ pub fn write_framed<M: Memory, S: Sink>(
         &mut rooms.room,
         &mut rooms.out,
         sink,
-    )
+    );
+    match written {
+        Ok(()) => Ok(()),
+        Err(failed) => {
+            rooms.out.clear();
+            Err(failed)
+        }
+    }
 }

@@ -1,12 +1,22 @@
 // Numbers as they stand on the wire.
-ghost use Rattle.std.specs.Prelude.{◌≡◌, ◌<◌, ℕ, OnOk};
+ghost use Rattle.std.specs.Prelude.{◌≡◌, ◌*◌, ◌^◌, ◌<◌, ◌≤◌, ℕ, List, OnOk, length};
+ghost use Rattle.std.specs.List.{concat};
+ghost use Rattle.arena_mem.specs.Places.{Places, Buffers};
+ghost use Rattle.pb_schema.specs.declared.schema.Schema.{Schema};
 ghost use Rattle.pb_schema.specs.Fitted.{IsPatternOf};
-ghost use Rattle.pb_schema.specs.Kinds.{value_type_of};
-ghost use Rattle.pb_schema.specs.Text.{spelled_text};
-ghost use Rattle.pb_write.specs.Puts.{Gains, spelled_by};
+ghost use Rattle.pb_schema.specs.Kinds.{value_type_of, slot_of};
+ghost use Rattle.pb_schema.specs.Text.{spelled_text, values_text};
+ghost use Rattle.pb_schema.specs.Tree.{ValueListWith, values_in_list, values_map};
+ghost use Rattle.dyn_message.specs.Feet.{Foot};
+ghost use Rattle.dyn_message.specs.Fields.{IsNumberType};
+ghost use Rattle.dyn_message.specs.Stands.{ValuesStand};
+ghost use Rattle.pb_write.specs.Puts.{Gains, front_of, spelled_by};
 
+use crate::backwards::put_front;
 use crate::target::Target;
-use pb_schema::Kind;
+use dyn_message::number_at;
+use msg_layout::single_bytes;
+use pb_schema::{FieldType, Kind};
 
 /// Where the patterns of negative numbers of 32 bits begin.
 const NEGATIVE_32: u64 = 1 << 31;
@@ -31,6 +41,37 @@ pub(crate) fn put_number<T: Target>(kind: Kind, bits: u64, target: &mut T) -> Re
         ),
         _ => target.put_varint(spelled(kind, bits)),
     }
+}
+
+/// Puts the numbers of a list, which lie one behind the other in these bytes, each behind its tag where they aren't
+/// packed.
+pub(crate) fn put_numbers<T: Target>(
+    elements: &[u8],
+    count: u32,
+    field: FieldType,
+    packed: bool,
+    target: &mut T,
+) -> Result<(), T::Refusal>
+    requires within { count * slot_of (value_type_of field.kind) ≤ length elements.now }
+    requires few { count ≤ 2 ^ 26 }
+    requires number { field.number < 2 ^ 29 }
+    requires kind { IsNumberType (value_type_of field.kind) }
+    requires stand { (schema : Schema) × (places : Places) × (buffers : Buffers) × (values : ValueListWith (List (List ℕ))) × (feet : List Foot) × ValuesStand schema places buffers (value_type_of field.kind) elements.now values feet × (length (values_in_list values) ≡ count) }
+    ensures { (schema : Schema) (places : Places) (buffers : Buffers) (values : ValueListWith (List (List ℕ))) (feet : List Foot) → ValuesStand schema places buffers (value_type_of field.kind) elements.now values feet → length (values_in_list values) ≡ count
+        → OnOk result (Gains (T.holds target.old) (T.holds target.new) (values_text schema field (front_of packed field) (values_map concat values))) }
+{
+    let size = single_bytes(field.kind);
+    let mut i = count;
+    'numbers: while i > 0 {
+        i -= 1;
+        put_number(
+            field.kind,
+            number_at(elements, i * size, field.kind),
+            target,
+        )?;
+        put_front(field, packed, target)?;
+    }
+    Ok(())
 }
 
 /// The number that a varint spells for a bit pattern of its kind.

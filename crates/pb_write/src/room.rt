@@ -62,10 +62,25 @@ impl Target for Room {
         Ok(())
     }
 
+    // Most varints are short, and those are stored straight away.
     #[inline]
     fn put_varint(&mut self, value: u64) -> Result<(), Full> {
         if value < 128 {
-            return self.put_bytes(&[value as u8]);
+            if self.at < 1 {
+                return Err(Full);
+            }
+            self.at -= 1;
+            self.bytes[self.at] = value as u8;
+            return Ok(());
+        }
+        if value < 16384 {
+            if self.at < 2 {
+                return Err(Full);
+            }
+            self.at -= 2;
+            self.bytes[self.at] = (value % 128) as u8 + 128;
+            self.bytes[self.at + 1] = (value / 128) as u8;
+            return Ok(());
         }
         let mut varint = [0u8; 10];
         let count = put_varint(&mut varint, 0, value);

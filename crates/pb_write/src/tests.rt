@@ -3,7 +3,7 @@ ghost use Rattle.std.specs.Prelude.{◌≡◌, ◌<◌, ◌^◌, IfOk, length};
 ghost use Rattle.pb_schema.specs.Builtin.{builtin as builtin_schema};
 ghost use Rattle.pb_write.specs.Texts.{IsWritable};
 
-use crate::{size, write_message};
+use crate::{TextRooms, size, write_framed, write_message};
 use arena_mem::{MemFault, Memory, MemorySink, PlainMemory};
 use dyn_message::{
     MsgRef, append_scalar, append_unknown, count, create, make_sub, set_bytes, set_scalar,
@@ -24,6 +24,11 @@ const SAMPLE: [u8; 35] = [
 
 // How many bytes of it are the text.
 const SAMPLE_BYTES: usize = 33;
+
+// A blob that is longer than a room, and the text with it.
+const LONG_BYTES: usize = 70_000;
+
+const LONG_TEXT_BYTES: u64 = 70_034;
 
 // A node with a number, a packed list, bytes, a message, a member and an unknown field.
 fn sample<M: Memory>(mem: &mut M, types: &Layouts, blob: &[u8]) -> Result<MsgRef, MemFault>
@@ -70,5 +75,68 @@ fn a_sink_that_fails_has_a_front(rt: HostRuntime) -> Result<(), Fail> {
         assert_eq!(rt; sink.faults(), 1);
         assert_eq!(rt; sink.taken(), &SAMPLE[..4 * failing as usize]);
     }
+    Ok(())
+}
+
+// What stands before and behind a blob of so many bytes, where it is the sample's.
+const LONG_FRONT: &[u8] =
+    b"\x10\xfb\xff\xff\xff\xff\xff\xff\xff\xff\x01\x22\x0a\xff\xff\xff\xff\xff\xff\xff\xff\xff\x01\x2a\xf0\xa2\x04";
+
+const LONG_BACK: &[u8] = b"\x32\x00\x3a\x00\xf8\x07\x01";
+
+// Whether a text is the sample's with this blob.
+fn is_long_text(text: &[u8], blob: &[u8]) -> bool {
+    let Some(rest) = text.strip_prefix(LONG_FRONT) else {
+        return false;
+    };
+    rest.strip_prefix(blob) == Some(LONG_BACK)
+}
+
+// A message that no room holds is written from its start.
+#[test]
+fn a_long_node_is_written(rt: HostRuntime) -> Result<(), Fail> {
+    let types = layouts(rt.alloc(), builtin(rt.alloc())?)?;
+    let mut mem = PlainMemory::new(rt.alloc());
+    let blob = vec![in rt.alloc(); b'b'; LONG_BYTES]?;
+    let msg = sample(&mut mem, &types, &blob)?;
+    assert_eq!(rt; size(&mem, &types, msg), LONG_TEXT_BYTES);
+    let mut sink = MemorySink::new(rt.alloc(), 4096, vec![in rt.alloc(); u64::MAX; 1]?);
+    assert!(rt; write_message(&mem, &types, msg, &mut sink).is_ok());
+    assert!(rt; is_long_text(sink.taken(), &blob));
+    Ok(())
+}
+
+// What stands behind the sample's text and its length, where these are in front.
+fn behind_framed(text: &[u8]) -> Option<&[u8]> {
+    let rest = text.strip_prefix(&[SAMPLE_BYTES as u8])?;
+    rest.strip_prefix(&SAMPLE[..SAMPLE_BYTES])
+}
+
+// Whether a text is that of two samples, each behind its length.
+fn is_framed_twice(text: &[u8]) -> bool {
+    match behind_framed(text) {
+        Some(rest) => behind_framed(rest) == Some(&[]),
+        None => false,
+    }
+}
+
+// Two messages wait until they are handed over; where that fails, nothing waits any more.
+#[test]
+fn messages_wait_behind_their_lengths(rt: HostRuntime) -> Result<(), Fail> {
+    let types = layouts(rt.alloc(), builtin(rt.alloc())?)?;
+    let mut mem = PlainMemory::new(rt.alloc());
+    let msg = sample(&mut mem, &types, b"b")?;
+    let mut rooms = TextRooms::new();
+    let mut sink = MemorySink::new(rt.alloc(), 100, vec![in rt.alloc(); 1; 1]?);
+    for _ in 0..2 {
+        assert!(rt; write_framed(&mem, &types, msg, &mut rooms, &mut sink).is_ok());
+    }
+    assert!(rt; sink.taken().is_empty());
+    assert!(rt; rooms.flush(&mut sink).is_ok());
+    assert!(rt; is_framed_twice(sink.taken()));
+    assert!(rt; write_framed(&mem, &types, msg, &mut rooms, &mut sink).is_ok());
+    assert!(rt; rooms.flush(&mut sink).is_err());
+    assert!(rt; rooms.flush(&mut sink).is_ok());
+    assert!(rt; is_framed_twice(sink.taken()));
     Ok(())
 }

@@ -23,27 +23,28 @@ use Rattle.pb_write.proofs.Lists.{array_live, count_same, elements_there, elemen
 use Rattle.pb_write.proofs.Parts.{fields_drop, values_drop, field_at_index, fields_end, value_levels_at, value_text_at, values_end}
 use Rattle.pb_write.proofs.Records.{opened, entries_lie, type_known, record_live, pieces_at, entries_at, fields_at}
 use Rattle.pb_write.proofs.Singles.{set_value, unset_nothing, single_of}
+use Rattle.pb_write.proofs.Unset.{unset_text}
 use Rattle.pb_write.proofs.Values.{message_value, message_place, string_value, string_slot, bytes_type, number_value, number_type}
 use Rattle.pb_write.proofs.backwards.+backwards.Goals as goal
 
 -- VALUES OF A LIST
 
-pub put_elements-values-init : goal.put_elements-values-init
-put_elements-values-init g t c = record {
+pub put_values-values-init : goal.put_values-values-init
+put_values-values-init g t c = record {
   within = omega arith;
   gained = λ values feet stand counted.
       gains_same (g.T.Target.holds c.args.target.now) (g.T.Target.holds c.args.target.now) [] (values_text c.args.types.now c.args.field (front_of c.args.packed c.args.field) (values_map concat (values_drop c.args.count values)))
       (ap (λ vs. values_text c.args.types.now c.args.field (front_of c.args.packed c.args.field) (values_map concat vs)) (sym (ap (λ n. values_drop n values) (sym counted) ∙ values_end values))) (gains_nothing (g.T.Target.holds c.args.target.now));
 }
 
-pub put_elements-overflow_mul-i : goal.put_elements-overflow_mul-i
-put_elements-overflow_mul-i g t c =
+pub put_values-overflow_mul-i : goal.put_values-overflow_mul-i
+put_values-overflow_mul-i g t c =
     let less = c.values.invariant.within in let some = c.values-test.true in
     let small = index_small (c.values.i - 1) c.args.count c.single_bytes-size.result c.args.field.kind (omega (arith, less, some)) c.requires.few c.single_bytes-size.ensures in
     omega (arith, small)
 
-pub put_elements-put_value-requires : goal.put_elements-put_value-requires
-put_elements-put_value-requires g t c κs within =
+pub put_values-put_value-requires : goal.put_values-put_value-requires
+put_values-put_value-requires g t c κs within =
     let stand = c.requires.stand in
     let less = c.values.invariant.within in let some = c.values-test.true in
     let size = c.single_bytes-size.ensures in
@@ -54,8 +55,8 @@ put_elements-put_value-requires g t c κs within =
     let levels = stand.4 in
     (omega (arith, c.decreases), (within.0, (within.1.0, (within.1.1.0, (within.1.1.1, (omega (arith, fits, ap (λ n. (c.values.i - 1) * n) size), (small, (at.0, at.1, at.3, omega (arith, deep, levels)))))))))
 
-pub put_elements-values-preserved : goal.put_elements-values-preserved
-put_elements-values-preserved g t c = record {
+pub put_values-values-preserved : goal.put_values-values-preserved
+put_values-values-preserved g t c = record {
   within = omega (arith, c.values.invariant.within);
   gained = λ values feet stand counted.
       let some = c.values-test.true in
@@ -70,11 +71,22 @@ put_elements-values-preserved g t c = record {
       (gains_two A C D (own ++ rest) front (gains_two A B C rest own (c.values.invariant.gained values feet stand counted) (c.in_ok-put_value.ensures at.0 at.1 at.3)) c.in_ok-put_front.ensures);
 }
 
-pub put_elements-returns : goal.put_elements-returns
-put_elements-returns g t c = λ values feet stand counted.
+pub put_values-returns : goal.put_values-returns
+put_values-returns g t c = λ values feet stand counted.
     let none : c.values.i ≡ 0 = omega (arith, c.values-test.false) in
     gains_same (g.T.Target.holds c.args.target.now) (g.T.Target.holds c.values.target) (values_text c.args.types.now c.args.field (front_of c.args.packed c.args.field) (values_map concat (values_drop c.values.i values))) (values_text c.args.types.now c.args.field (front_of c.args.packed c.args.field) (values_map concat values))
     (ap (λ n. values_text c.args.types.now c.args.field (front_of c.args.packed c.args.field) (values_map concat (values_drop n values))) none) (c.values.invariant.gained values feet stand counted)
+
+pub put_elements-put_numbers-requires : goal.put_elements-put_numbers-requires
+put_elements-put_numbers-requires g t c =
+    let stand = c.requires.stand in
+    record {
+      within = c.requires.within;
+      few = c.requires.few;
+      number = c.requires.number;
+      kind = number_type c.args.field.kind c.in_default.not-Text c.in_default.not-Message c.in_default.not-Bytes;
+      stand = (c.args.types.now, g.M.Memory.places c.args.mem.now, g.M.Memory.buffers c.args.mem.now, stand.0, stand.1, stand.2, stand.3);
+    }
 
 -- A FIELD
 
@@ -82,7 +94,7 @@ pub put_field-put_list-requires : goal.put_field-put_list-requires
 put_field-put_list-requires g t c κs within = (omega (arith, c.decreases), (within.0, (within.1.0, (within.1.1.0, (within.1.1.1, (c.in-Repeated.is, (c.requires.within, c.requires.stand)))))))
 
 pub put_field-put_single-requires : goal.put_field-put_single-requires
-put_field-put_single-requires g t c κs within = (omega (arith, c.decreases), (within.0, (within.1.0, (within.1.1.0, (within.1.1.1, (single_of c.args.entry.field.card c.in_default.not-Repeated, (c.requires.within, c.requires.stand)))))))
+put_field-put_single-requires g t c κs within = (omega (arith, c.decreases), (within.0, (within.1.0, (within.1.1.0, (within.1.1.1, (single_of c.args.entry.now.field.card c.in_default.not-Repeated, (c.requires.within, c.requires.stand)))))))
 
 -- FIELDS
 
@@ -109,8 +121,8 @@ put_fields-put_field-requires g t c κs within =
     let deep = at.levels in let levels = stand.3 in
     (omega (arith, c.decreases), (within.0, (within.1.0, (within.1.1.0, (within.1.1.1, (c.requires.within (c.fields.i - 1) past_end_entry below, (at.one, at.own, at.stands, omega (arith, deep, levels))))))))
 
-pub put_fields-fields-preserved : goal.put_fields-fields-preserved
-put_fields-fields-preserved g t c = record {
+pub put_fields-fields-preserved-in-Continue-1 : goal.put_fields-fields-preserved-in-Continue-1
+put_fields-fields-preserved-in-Continue-1 g t c = record {
   within = omega (arith, c.fields.invariant.within);
   gained = λ held feet stand.
       let less = c.fields.invariant.within in let some = c.fields-test.true in
@@ -126,6 +138,23 @@ put_fields-fields-preserved g t c = record {
       (gains_two A B C rest own (c.fields.invariant.gained held feet stand) (c.in_ok-put_field.ensures at.one at.own at.stands));
 }
 
+pub put_fields-fields-preserved : goal.put_fields-fields-preserved
+put_fields-fields-preserved g t c = record {
+  within = omega (arith, c.fields.invariant.within);
+  gained = λ held feet stand.
+      let less = c.fields.invariant.within in let some = c.fields-test.true in
+      let below : c.fields.i - 1 < length c.args.entries.now = omega (arith, less, some) in
+      let entry = get_or c.args.entries.now (c.fields.i - 1) past_end_entry in
+      let at = field_at_index c.args.types.now (g.M.Memory.places c.args.mem.now) (g.M.Memory.buffers c.args.mem.now) c.args.bytes.now c.args.entries.now held feet (c.fields.i - 1) entry stand (slice_get-get_or c.args.entries.now (c.fields.i - 1) past_end_entry below) in
+      let next : suc (c.fields.i - 1) ≡ c.fields.i = omega (arith, some) in
+      let A = g.T.Target.holds c.args.target.now in let B = g.T.Target.holds c.fields.target in
+      let none = unset_text c.args.types.now c.schema-schema.ensures.lawful (g.M.Memory.places c.args.mem.now) (g.M.Memory.buffers c.args.mem.now) entry c.args.bytes.now (c.requires.within (c.fields.i - 1) past_end_entry below) at.one at.own at.stands (sym c.holds_some.ensures ∙ c.if-holds_some.false) in
+      let rest = fields_text c.args.types.now (drop c.fields.i (fields_in c.args.entries.now)) (fields_map concat (fields_drop c.fields.i held)) in
+      gains_same A B rest (fields_text c.args.types.now (drop (c.fields.i - 1) (fields_in c.args.entries.now)) (fields_map concat (fields_drop (c.fields.i - 1) held)))
+      (sym (at.text ∙ ap (λ n. held_text c.args.types.now entry.field (held_map concat at.one) ++ fields_text c.args.types.now (drop n (fields_in c.args.entries.now)) (fields_map concat (fields_drop n held))) next ∙ ap (λ own. own ++ rest) none))
+      (c.fields.invariant.gained held feet stand);
+}
+
 pub put_fields-returns : goal.put_fields-returns
 put_fields-returns g t c = λ held feet stand.
     let none : c.fields.i ≡ 0 = omega (arith, c.fields-test.false) in
@@ -136,66 +165,66 @@ put_fields-returns g t c = λ held feet stand.
 
 pub put_list-returns-then-count-eq0 : goal.put_list-returns-then-count-eq0
 put_list-returns-then-count-eq0 g t c = λ held own stand.
-    let list = list_is c.args.types.now (g.M.Memory.places c.args.mem.now) (g.M.Memory.buffers c.args.mem.now) c.args.entry c.args.bytes.now c.args.packed c.requires.list held own stand in
-    let none = sym (count_is (g.M.Memory.places c.args.mem.now) (slot_of (value_type_of c.args.entry.field.kind)) (length (values_in_list list.values)) (part c.args.entry.slot array_slot c.args.bytes.now) own list.holds) ∙ sym c.list_at-count.ensures.count ∙ c.if-count-eq0.true in
-    gains_same (g.T.Target.holds c.args.target.now) (g.T.Target.holds c.args.target.now) [] (held_text c.args.types.now c.args.entry.field (held_map concat held))
-    (no_values_text c.args.types.now c.args.entry.field c.args.packed list.values none ∙ sym (ap (λ h. held_text c.args.types.now c.args.entry.field (held_map concat h)) list.is ∙ many_is c.args.types.now c.args.entry.field (values_map concat list.values) c.args.packed c.requires.list))
+    let list = list_is c.args.types.now (g.M.Memory.places c.args.mem.now) (g.M.Memory.buffers c.args.mem.now) c.args.entry.now c.args.bytes.now c.args.packed c.requires.list held own stand in
+    let none = sym (count_is (g.M.Memory.places c.args.mem.now) (slot_of (value_type_of c.args.entry.now.field.kind)) (length (values_in_list list.values)) (part c.args.entry.now.slot array_slot c.args.bytes.now) own list.holds) ∙ sym c.list_at-count.ensures.count ∙ c.if-count-eq0.true in
+    gains_same (g.T.Target.holds c.args.target.now) (g.T.Target.holds c.args.target.now) [] (held_text c.args.types.now c.args.entry.now.field (held_map concat held))
+    (no_values_text c.args.types.now c.args.entry.now.field c.args.packed list.values none ∙ sym (ap (λ h. held_text c.args.types.now c.args.entry.now.field (held_map concat h)) list.is ∙ many_is c.args.types.now c.args.entry.now.field (values_map concat list.values) c.args.packed c.requires.list))
     (gains_nothing (g.T.Target.holds c.args.target.now))
 
 pub put_list-read-elements-requires : goal.put_list-read-elements-requires
 put_list-read-elements-requires g t c =
     let stand = c.requires.stand in
-    let list = list_is c.args.types.now (g.M.Memory.places c.args.mem.now) (g.M.Memory.buffers c.args.mem.now) c.args.entry c.args.bytes.now c.args.packed c.requires.list stand.0 stand.1 stand.2 in
-    array_live (g.M.Memory.places c.args.mem.now) (slot_of (value_type_of c.args.entry.field.kind)) (length (values_in_list list.values)) (part c.args.entry.slot array_slot c.args.bytes.now) stand.1 list.holds c.list_at-count.result.0 c.list_at-count.result.1 c.list_at-count.ensures.place c.list_at-count.ensures.count c.if-count-eq0.false
+    let list = list_is c.args.types.now (g.M.Memory.places c.args.mem.now) (g.M.Memory.buffers c.args.mem.now) c.args.entry.now c.args.bytes.now c.args.packed c.requires.list stand.0 stand.1 stand.2 in
+    array_live (g.M.Memory.places c.args.mem.now) (slot_of (value_type_of c.args.entry.now.field.kind)) (length (values_in_list list.values)) (part c.args.entry.now.slot array_slot c.args.bytes.now) stand.1 list.holds c.list_at-count.result.0 c.list_at-count.result.1 c.list_at-count.ensures.place c.list_at-count.ensures.count c.if-count-eq0.false
 
 pub put_list-put_elements-requires : goal.put_list-put_elements-requires
 put_list-put_elements-requires g t c κs within =
     let stand = c.requires.stand in
-    let list = list_is c.args.types.now (g.M.Memory.places c.args.mem.now) (g.M.Memory.buffers c.args.mem.now) c.args.entry c.args.bytes.now c.args.packed c.requires.list stand.0 stand.1 stand.2 in
-    let there = elements_there (g.M.Memory.places c.args.mem.now) (slot_of (value_type_of c.args.entry.field.kind)) (length (values_in_list list.values)) (part c.args.entry.slot array_slot c.args.bytes.now) stand.1 list.holds c.list_at-count.result.0 c.list_at-count.result.1 c.list_at-count.ensures.place c.list_at-count.ensures.count c.if-count-eq0.false c.read-elements.result.now c.read-elements.ensures.value in
-    let counted = count_same (g.M.Memory.places c.args.mem.now) (slot_of (value_type_of c.args.entry.field.kind)) (length (values_in_list list.values)) (part c.args.entry.slot array_slot c.args.bytes.now) stand.1 list.holds c.list_at-count.result.0 c.list_at-count.result.1 c.list_at-count.ensures.place c.list_at-count.ensures.count c.if-count-eq0.false in
+    let list = list_is c.args.types.now (g.M.Memory.places c.args.mem.now) (g.M.Memory.buffers c.args.mem.now) c.args.entry.now c.args.bytes.now c.args.packed c.requires.list stand.0 stand.1 stand.2 in
+    let there = elements_there (g.M.Memory.places c.args.mem.now) (slot_of (value_type_of c.args.entry.now.field.kind)) (length (values_in_list list.values)) (part c.args.entry.now.slot array_slot c.args.bytes.now) stand.1 list.holds c.list_at-count.result.0 c.list_at-count.result.1 c.list_at-count.ensures.place c.list_at-count.ensures.count c.if-count-eq0.false c.read-elements.result.now c.read-elements.ensures.value in
+    let counted = count_same (g.M.Memory.places c.args.mem.now) (slot_of (value_type_of c.args.entry.now.field.kind)) (length (values_in_list list.values)) (part c.args.entry.now.slot array_slot c.args.bytes.now) stand.1 list.holds c.list_at-count.result.0 c.list_at-count.result.1 c.list_at-count.ensures.place c.list_at-count.ensures.count c.if-count-eq0.false in
     let levels = stand.3 in
     (omega (arith, c.decreases), (within.0, (within.1.0, (within.1.1.0, (within.1.1.1, (there.fit, (there.most, (c.requires.within.number, (list.values, there.behind, there.stand, sym counted, omega (arith, levels, ap held_levels list.is))))))))))
 
 pub put_list-put_elements-requires-2 : goal.put_list-put_elements-requires-2
 put_list-put_elements-requires-2 g t c κs within =
     let stand = c.requires.stand in
-    let list = list_is c.args.types.now (g.M.Memory.places c.args.mem.now) (g.M.Memory.buffers c.args.mem.now) c.args.entry c.args.bytes.now c.args.packed c.requires.list stand.0 stand.1 stand.2 in
-    let there = elements_there (g.M.Memory.places c.args.mem.now) (slot_of (value_type_of c.args.entry.field.kind)) (length (values_in_list list.values)) (part c.args.entry.slot array_slot c.args.bytes.now) stand.1 list.holds c.list_at-count.result.0 c.list_at-count.result.1 c.list_at-count.ensures.place c.list_at-count.ensures.count c.if-count-eq0.false c.read-elements.result.now c.read-elements.ensures.value in
-    let counted = count_same (g.M.Memory.places c.args.mem.now) (slot_of (value_type_of c.args.entry.field.kind)) (length (values_in_list list.values)) (part c.args.entry.slot array_slot c.args.bytes.now) stand.1 list.holds c.list_at-count.result.0 c.list_at-count.result.1 c.list_at-count.ensures.place c.list_at-count.ensures.count c.if-count-eq0.false in
+    let list = list_is c.args.types.now (g.M.Memory.places c.args.mem.now) (g.M.Memory.buffers c.args.mem.now) c.args.entry.now c.args.bytes.now c.args.packed c.requires.list stand.0 stand.1 stand.2 in
+    let there = elements_there (g.M.Memory.places c.args.mem.now) (slot_of (value_type_of c.args.entry.now.field.kind)) (length (values_in_list list.values)) (part c.args.entry.now.slot array_slot c.args.bytes.now) stand.1 list.holds c.list_at-count.result.0 c.list_at-count.result.1 c.list_at-count.ensures.place c.list_at-count.ensures.count c.if-count-eq0.false c.read-elements.result.now c.read-elements.ensures.value in
+    let counted = count_same (g.M.Memory.places c.args.mem.now) (slot_of (value_type_of c.args.entry.now.field.kind)) (length (values_in_list list.values)) (part c.args.entry.now.slot array_slot c.args.bytes.now) stand.1 list.holds c.list_at-count.result.0 c.list_at-count.result.1 c.list_at-count.ensures.place c.list_at-count.ensures.count c.if-count-eq0.false in
     let levels = stand.3 in
     (omega (arith, c.decreases), (within.0, (within.1.0, (within.1.1.0, (within.1.1.1, (there.fit, (there.most, (c.requires.within.number, (list.values, there.behind, there.stand, sym counted, omega (arith, levels, ap held_levels list.is))))))))))
 
 pub put_list-returns-then-not-packed : goal.put_list-returns-then-not-packed
 put_list-returns-then-not-packed g t c = λ held own stand.
-    let list = list_is c.args.types.now (g.M.Memory.places c.args.mem.now) (g.M.Memory.buffers c.args.mem.now) c.args.entry c.args.bytes.now c.args.packed c.requires.list held own stand in
-    let there = elements_there (g.M.Memory.places c.args.mem.now) (slot_of (value_type_of c.args.entry.field.kind)) (length (values_in_list list.values)) (part c.args.entry.slot array_slot c.args.bytes.now) own list.holds c.list_at-count.result.0 c.list_at-count.result.1 c.list_at-count.ensures.place c.list_at-count.ensures.count c.if-count-eq0.false c.read-elements.result.now c.read-elements.ensures.value in
-    let counted = count_same (g.M.Memory.places c.args.mem.now) (slot_of (value_type_of c.args.entry.field.kind)) (length (values_in_list list.values)) (part c.args.entry.slot array_slot c.args.bytes.now) own list.holds c.list_at-count.result.0 c.list_at-count.result.1 c.list_at-count.ensures.place c.list_at-count.ensures.count c.if-count-eq0.false in
-    let text = ap (λ h. held_text c.args.types.now c.args.entry.field (held_map concat h)) list.is ∙ many_is c.args.types.now c.args.entry.field (values_map concat list.values) c.args.packed c.requires.list ∙ ap (many_text c.args.types.now c.args.entry.field (values_map concat list.values)) c.if-not-packed.true in
-    on_ok_same c.put_elements.result (g.T.Target.holds c.args.target.now) (g.T.Target.holds c.put_elements.new.target) (values_text c.args.types.now c.args.entry.field (field_tag c.args.entry.field) (values_map concat list.values)) (held_text c.args.types.now c.args.entry.field (held_map concat held)) (sym text)
+    let list = list_is c.args.types.now (g.M.Memory.places c.args.mem.now) (g.M.Memory.buffers c.args.mem.now) c.args.entry.now c.args.bytes.now c.args.packed c.requires.list held own stand in
+    let there = elements_there (g.M.Memory.places c.args.mem.now) (slot_of (value_type_of c.args.entry.now.field.kind)) (length (values_in_list list.values)) (part c.args.entry.now.slot array_slot c.args.bytes.now) own list.holds c.list_at-count.result.0 c.list_at-count.result.1 c.list_at-count.ensures.place c.list_at-count.ensures.count c.if-count-eq0.false c.read-elements.result.now c.read-elements.ensures.value in
+    let counted = count_same (g.M.Memory.places c.args.mem.now) (slot_of (value_type_of c.args.entry.now.field.kind)) (length (values_in_list list.values)) (part c.args.entry.now.slot array_slot c.args.bytes.now) own list.holds c.list_at-count.result.0 c.list_at-count.result.1 c.list_at-count.ensures.place c.list_at-count.ensures.count c.if-count-eq0.false in
+    let text = ap (λ h. held_text c.args.types.now c.args.entry.now.field (held_map concat h)) list.is ∙ many_is c.args.types.now c.args.entry.now.field (values_map concat list.values) c.args.packed c.requires.list ∙ ap (many_text c.args.types.now c.args.entry.now.field (values_map concat list.values)) c.if-not-packed.true in
+    on_ok_same c.put_elements.result (g.T.Target.holds c.args.target.now) (g.T.Target.holds c.put_elements.new.target) (values_text c.args.types.now c.args.entry.now.field (field_tag c.args.entry.now.field) (values_map concat list.values)) (held_text c.args.types.now c.args.entry.now.field (held_map concat held)) (sym text)
     (c.put_elements.ensures list.values there.behind there.stand (sym counted))
 
 pub put_list-returns-then-len-eq0 : goal.put_list-returns-then-len-eq0
 put_list-returns-then-len-eq0 g t c = λ held own stand.
-    let list = list_is c.args.types.now (g.M.Memory.places c.args.mem.now) (g.M.Memory.buffers c.args.mem.now) c.args.entry c.args.bytes.now c.args.packed c.requires.list held own stand in
-    let there = elements_there (g.M.Memory.places c.args.mem.now) (slot_of (value_type_of c.args.entry.field.kind)) (length (values_in_list list.values)) (part c.args.entry.slot array_slot c.args.bytes.now) own list.holds c.list_at-count.result.0 c.list_at-count.result.1 c.list_at-count.ensures.place c.list_at-count.ensures.count c.if-count-eq0.false c.read-elements.result.now c.read-elements.ensures.value in
-    let counted = count_same (g.M.Memory.places c.args.mem.now) (slot_of (value_type_of c.args.entry.field.kind)) (length (values_in_list list.values)) (part c.args.entry.slot array_slot c.args.bytes.now) own list.holds c.list_at-count.result.0 c.list_at-count.result.1 c.list_at-count.ensures.place c.list_at-count.ensures.count c.if-count-eq0.false in
-    let text = ap (λ h. held_text c.args.types.now c.args.entry.field (held_map concat h)) list.is ∙ many_is c.args.types.now c.args.entry.field (values_map concat list.values) c.args.packed c.requires.list ∙ ap (many_text c.args.types.now c.args.entry.field (values_map concat list.values)) c.if-not-packed.false in
-    let inner = values_text c.args.types.now c.args.entry.field [] (values_map concat list.values) in
-    gains_same (g.T.Target.holds c.args.target.now) (g.T.Target.holds c.put_elements-2.new.target) (packed_text c.args.entry.field.number inner) (held_text c.args.types.now c.args.entry.field (held_map concat held)) (sym text)
-    (gains_packed_none (g.T.Target.holds c.args.target.now) (g.T.Target.holds c.put_elements-2.new.target) c.args.entry.field.number inner c.len-before.result c.len.result c.len-before.ensures c.len.ensures
+    let list = list_is c.args.types.now (g.M.Memory.places c.args.mem.now) (g.M.Memory.buffers c.args.mem.now) c.args.entry.now c.args.bytes.now c.args.packed c.requires.list held own stand in
+    let there = elements_there (g.M.Memory.places c.args.mem.now) (slot_of (value_type_of c.args.entry.now.field.kind)) (length (values_in_list list.values)) (part c.args.entry.now.slot array_slot c.args.bytes.now) own list.holds c.list_at-count.result.0 c.list_at-count.result.1 c.list_at-count.ensures.place c.list_at-count.ensures.count c.if-count-eq0.false c.read-elements.result.now c.read-elements.ensures.value in
+    let counted = count_same (g.M.Memory.places c.args.mem.now) (slot_of (value_type_of c.args.entry.now.field.kind)) (length (values_in_list list.values)) (part c.args.entry.now.slot array_slot c.args.bytes.now) own list.holds c.list_at-count.result.0 c.list_at-count.result.1 c.list_at-count.ensures.place c.list_at-count.ensures.count c.if-count-eq0.false in
+    let text = ap (λ h. held_text c.args.types.now c.args.entry.now.field (held_map concat h)) list.is ∙ many_is c.args.types.now c.args.entry.now.field (values_map concat list.values) c.args.packed c.requires.list ∙ ap (many_text c.args.types.now c.args.entry.now.field (values_map concat list.values)) c.if-not-packed.false in
+    let inner = values_text c.args.types.now c.args.entry.now.field [] (values_map concat list.values) in
+    gains_same (g.T.Target.holds c.args.target.now) (g.T.Target.holds c.put_elements-2.new.target) (packed_text c.args.entry.now.field.number inner) (held_text c.args.types.now c.args.entry.now.field (held_map concat held)) (sym text)
+    (gains_packed_none (g.T.Target.holds c.args.target.now) (g.T.Target.holds c.put_elements-2.new.target) c.args.entry.now.field.number inner c.len-before.result c.len.result c.len-before.ensures c.len.ensures
     (c.in_ok-put_elements.ensures list.values there.behind there.stand (sym counted)) (sym c.saturating_sub-len.ensures ∙ c.if-len-eq0.true))
 
 pub put_list-returns : goal.put_list-returns
 put_list-returns g t c = λ held own stand.
-    let list = list_is c.args.types.now (g.M.Memory.places c.args.mem.now) (g.M.Memory.buffers c.args.mem.now) c.args.entry c.args.bytes.now c.args.packed c.requires.list held own stand in
-    let there = elements_there (g.M.Memory.places c.args.mem.now) (slot_of (value_type_of c.args.entry.field.kind)) (length (values_in_list list.values)) (part c.args.entry.slot array_slot c.args.bytes.now) own list.holds c.list_at-count.result.0 c.list_at-count.result.1 c.list_at-count.ensures.place c.list_at-count.ensures.count c.if-count-eq0.false c.read-elements.result.now c.read-elements.ensures.value in
-    let counted = count_same (g.M.Memory.places c.args.mem.now) (slot_of (value_type_of c.args.entry.field.kind)) (length (values_in_list list.values)) (part c.args.entry.slot array_slot c.args.bytes.now) own list.holds c.list_at-count.result.0 c.list_at-count.result.1 c.list_at-count.ensures.place c.list_at-count.ensures.count c.if-count-eq0.false in
-    let text = ap (λ h. held_text c.args.types.now c.args.entry.field (held_map concat h)) list.is ∙ many_is c.args.types.now c.args.entry.field (values_map concat list.values) c.args.packed c.requires.list ∙ ap (many_text c.args.types.now c.args.entry.field (values_map concat list.values)) c.if-not-packed.false in
-    let inner = values_text c.args.types.now c.args.entry.field [] (values_map concat list.values) in
+    let list = list_is c.args.types.now (g.M.Memory.places c.args.mem.now) (g.M.Memory.buffers c.args.mem.now) c.args.entry.now c.args.bytes.now c.args.packed c.requires.list held own stand in
+    let there = elements_there (g.M.Memory.places c.args.mem.now) (slot_of (value_type_of c.args.entry.now.field.kind)) (length (values_in_list list.values)) (part c.args.entry.now.slot array_slot c.args.bytes.now) own list.holds c.list_at-count.result.0 c.list_at-count.result.1 c.list_at-count.ensures.place c.list_at-count.ensures.count c.if-count-eq0.false c.read-elements.result.now c.read-elements.ensures.value in
+    let counted = count_same (g.M.Memory.places c.args.mem.now) (slot_of (value_type_of c.args.entry.now.field.kind)) (length (values_in_list list.values)) (part c.args.entry.now.slot array_slot c.args.bytes.now) own list.holds c.list_at-count.result.0 c.list_at-count.result.1 c.list_at-count.ensures.place c.list_at-count.ensures.count c.if-count-eq0.false in
+    let text = ap (λ h. held_text c.args.types.now c.args.entry.now.field (held_map concat h)) list.is ∙ many_is c.args.types.now c.args.entry.now.field (values_map concat list.values) c.args.packed c.requires.list ∙ ap (many_text c.args.types.now c.args.entry.now.field (values_map concat list.values)) c.if-not-packed.false in
+    let inner = values_text c.args.types.now c.args.entry.now.field [] (values_map concat list.values) in
     let A = g.T.Target.holds c.args.target.now in let B = g.T.Target.holds c.put_elements-2.new.target in let C = g.T.Target.holds c.put_varint.new.self in let D = g.T.Target.holds c.put_varint-2.new.self in
-    on_ok_same c.put_varint-2.result A D (packed_text c.args.entry.field.number inner) (held_text c.args.types.now c.args.entry.field (held_map concat held)) (sym text)
-    (gains_packed c.put_varint-2.result A B C D c.args.entry.field.number inner c.len-before.result c.len.result c.len-before.ensures c.len.ensures
+    on_ok_same c.put_varint-2.result A D (packed_text c.args.entry.now.field.number inner) (held_text c.args.types.now c.args.entry.now.field (held_map concat held)) (sym text)
+    (gains_packed c.put_varint-2.result A B C D c.args.entry.now.field.number inner c.len-before.result c.len.result c.len-before.ensures c.len.ensures
     (c.in_ok-put_elements.ensures list.values there.behind there.stand (sym counted)) (λ none. c.if-len-eq0.false (c.saturating_sub-len.ensures ∙ none))
     (subst (λ n. Gains B C (varint_of n)) c.saturating_sub-len.ensures c.in_ok-put_varint.ensures) (subst (λ n. OnOk c.put_varint-2.result (Gains C D (varint_of n))) c.from.ensures c.put_varint-2.ensures))
 
@@ -254,27 +283,27 @@ put_nested-returns g t c = λ u feet stand.
 
 pub put_single-returns-then-not-is_held : goal.put_single-returns-then-not-is_held
 put_single-returns-then-not-is_held g t c = λ held own stand.
-    let none = unset_nothing c.args.types.now c.schema-schema.ensures.lawful (g.M.Memory.places c.args.mem.now) (g.M.Memory.buffers c.args.mem.now) c.args.entry.field (told_in c.args.entry c.args.bytes.now) (slot_in c.args.entry c.args.bytes.now) own c.requires.single c.requires.within.untold held stand (sym c.is_held.ensures ∙ c.if-not-is_held.true) in
-    gains_same (g.T.Target.holds c.args.target.now) (g.T.Target.holds c.args.target.now) [] (held_text c.args.types.now c.args.entry.field (held_map concat held)) (sym (ap (λ h. held_text c.args.types.now c.args.entry.field (held_map concat h)) none)) (gains_nothing (g.T.Target.holds c.args.target.now))
+    let none = unset_nothing c.args.types.now c.schema-schema.ensures.lawful (g.M.Memory.places c.args.mem.now) (g.M.Memory.buffers c.args.mem.now) c.args.entry.now.field (told_in c.args.entry.now c.args.bytes.now) (slot_in c.args.entry.now c.args.bytes.now) own c.requires.single c.requires.within.untold held stand (sym c.is_held.ensures ∙ c.if-not-is_held.true) in
+    gains_same (g.T.Target.holds c.args.target.now) (g.T.Target.holds c.args.target.now) [] (held_text c.args.types.now c.args.entry.now.field (held_map concat held)) (sym (ap (λ h. held_text c.args.types.now c.args.entry.now.field (held_map concat h)) none)) (gains_nothing (g.T.Target.holds c.args.target.now))
 
 pub put_single-put_value-requires : goal.put_single-put_value-requires
 unfolding slot_in
 put_single-put_value-requires g t c κs within =
     let stand = c.requires.stand in
-    let field = c.args.entry.field in
-    let is = set_value c.args.types.now c.schema-schema.ensures.lawful (g.M.Memory.places c.args.mem.now) (g.M.Memory.buffers c.args.mem.now) field (told_in c.args.entry c.args.bytes.now) (slot_in c.args.entry c.args.bytes.now) stand.1 c.requires.single stand.0 stand.2 (sym c.is_held.ensures ∙ c.if-not-is_held.false) in
+    let field = c.args.entry.now.field in
+    let is = set_value c.args.types.now c.schema-schema.ensures.lawful (g.M.Memory.places c.args.mem.now) (g.M.Memory.buffers c.args.mem.now) field (told_in c.args.entry.now c.args.bytes.now) (slot_in c.args.entry.now c.args.bytes.now) stand.1 c.requires.single stand.0 stand.2 (sym c.is_held.ensures ∙ c.if-not-is_held.false) in
     let size = single_slot field c.requires.single in
     let slot = c.requires.within.slot in let small = c.requires.within.small in let levels = stand.3 in
-    (omega (arith, c.decreases), (within.0, (within.1.0, (within.1.1.0, (within.1.1.1, (omega (arith, slot, size), (omega (arith, slot, small), (is.value, is.own, subst (λ n. ValueStands c.args.types.now (g.M.Memory.places c.args.mem.now) (g.M.Memory.buffers c.args.mem.now) (value_type_of field.kind) (part c.args.entry.slot n c.args.bytes.now) is.value is.own) size is.stands, omega (arith, levels, ap held_levels is.is)))))))))
+    (omega (arith, c.decreases), (within.0, (within.1.0, (within.1.1.0, (within.1.1.1, (omega (arith, slot, size), (omega (arith, slot, small), (is.value, is.own, subst (λ n. ValueStands c.args.types.now (g.M.Memory.places c.args.mem.now) (g.M.Memory.buffers c.args.mem.now) (value_type_of field.kind) (part c.args.entry.now.slot n c.args.bytes.now) is.value is.own) size is.stands, omega (arith, levels, ap held_levels is.is)))))))))
 
 pub put_single-returns : goal.put_single-returns
 unfolding slot_in
 put_single-returns g t c = λ held own stand.
-    let field = c.args.entry.field in
-    let is = set_value c.args.types.now c.schema-schema.ensures.lawful (g.M.Memory.places c.args.mem.now) (g.M.Memory.buffers c.args.mem.now) field (told_in c.args.entry c.args.bytes.now) (slot_in c.args.entry c.args.bytes.now) own c.requires.single held stand (sym c.is_held.ensures ∙ c.if-not-is_held.false) in
+    let field = c.args.entry.now.field in
+    let is = set_value c.args.types.now c.schema-schema.ensures.lawful (g.M.Memory.places c.args.mem.now) (g.M.Memory.buffers c.args.mem.now) field (told_in c.args.entry.now c.args.bytes.now) (slot_in c.args.entry.now c.args.bytes.now) own c.requires.single held stand (sym c.is_held.ensures ∙ c.if-not-is_held.false) in
     let size = single_slot field c.requires.single in
     then_gains c.put_tag.result (g.T.Target.holds c.args.target.now) (g.T.Target.holds c.put_value.new.target) (g.T.Target.holds c.put_tag.new.target) (value_text c.args.types.now field (value_map concat is.value)) (field_tag field) (held_text c.args.types.now field (held_map concat held))
-    (c.in_ok-put_value.ensures is.value is.own (subst (λ n. ValueStands c.args.types.now (g.M.Memory.places c.args.mem.now) (g.M.Memory.buffers c.args.mem.now) (value_type_of field.kind) (part c.args.entry.slot n c.args.bytes.now) is.value is.own) size is.stands)) c.put_tag.ensures
+    (c.in_ok-put_value.ensures is.value is.own (subst (λ n. ValueStands c.args.types.now (g.M.Memory.places c.args.mem.now) (g.M.Memory.buffers c.args.mem.now) (value_type_of field.kind) (part c.args.entry.now.slot n c.args.bytes.now) is.value is.own) size is.stands)) c.put_tag.ensures
     (ap (λ h. held_text c.args.types.now field (held_map concat h)) is.is)
 
 -- A VALUE

@@ -8,5 +8,5 @@ use Rattle.pb_write.proofs.backwards.is_held.Goals as goal
 pub returns : goal.returns
 unfolding slot_in
 returns c =
-    let field = c.args.entry.field in
-    c.is_set.ensures ∙ ap (set_by (told_in c.args.entry c.args.bytes.now)) (c.slot_tells.ensures ∙ ap (λ n. slot_tells (value_type_of field.kind) (part c.args.entry.slot n c.args.bytes.now)) (sym (single_slot field c.requires.single)))
+    let field = c.args.entry.now.field in
+    c.is_set.ensures ∙ ap (set_by (told_in c.args.entry.now c.args.bytes.now)) (c.slot_tells.ensures ∙ ap (λ n. slot_tells (value_type_of field.kind) (part c.args.entry.now.slot n c.args.bytes.now)) (sym (single_slot field c.requires.single)))
