@@ -11,15 +11,61 @@ use std::alloc::{AllocError, Global};
 use std::process::Abort;
 use std::test::Fail;
 
-// How a run ended, and what it left.
+// How a run ended, what it left, and what it told.
 #[derive(Drop)]
 pub struct End {
     pub status: u8,
     pub fault: Option<Fault>,
     pub written: Vec<u8>,
+    pub told: Vec<u8>,
     pub registers: usize,
     pub space_used: u64,
     pub kept: u64,
+}
+
+// What fails in a run: the calls of the files and of the two sinks with these numbers.
+#[derive(Drop)]
+pub struct Failing<'a> {
+    pub reads: &'a [u64],
+    pub writes: &'a [u64],
+    pub tells: &'a [u64],
+}
+
+// Runs these words over the files of these names and contents. The sinks take so many bytes in a call.
+pub fn end_over(
+    alloc: Global,
+    words: &[&str],
+    files: &[(&str, &[u8])],
+    failing: &Failing<'_>,
+    per_call: u32,
+) -> Result<End, AllocError>
+    requires { 1 ≤ per_call }
+{
+    let mut strings = Vec::new(alloc);
+    for word in words {
+        strings.push(String::from_str(alloc, word)?)?;
+    }
+    let mut named = Vec::new(alloc);
+    for (name, content) in files {
+        named.push(NamedBytes {
+            name: name.as_bytes().to_vec(alloc)?,
+            content: content.to_vec(alloc)?,
+        })?;
+    }
+    let mut files = MemoryFiles::new(named, failing.reads.to_vec(alloc)?);
+    let mut out = MemorySink::new(alloc, per_call, failing.writes.to_vec(alloc)?);
+    let mut err = MemorySink::new(alloc, per_call, failing.tells.to_vec(alloc)?);
+    let arena = SerialArena::new(alloc, Policy::profile(), 0, 0, 0);
+    let outcome = run(alloc, &strings, &mut files, &mut out, &mut err, arena);
+    Ok(End {
+        status: outcome.status,
+        fault: outcome.fault,
+        written: out.taken().to_vec(alloc)?,
+        told: err.taken().to_vec(alloc)?,
+        registers: outcome.registers.len(),
+        space_used: outcome.arena.space_used(),
+        kept: outcome.arena.registered(),
+    })
 }
 
 // Runs these words over one file, "f". The calls of the file and of the sink that are listed fail.
@@ -33,26 +79,12 @@ pub fn end_of_run(
 ) -> Result<End, AllocError>
     requires { 1 ≤ per_call }
 {
-    let mut strings = Vec::new(alloc);
-    for word in words {
-        strings.push(String::from_str(alloc, word)?)?;
-    }
-    let file = NamedBytes {
-        name: b"f".to_vec(alloc)?,
-        content: content.to_vec(alloc)?,
+    let failing = Failing {
+        reads: failing_reads,
+        writes: failing_writes,
+        tells: &[],
     };
-    let mut files = MemoryFiles::new(vec![in alloc; file]?, failing_reads.to_vec(alloc)?);
-    let mut out = MemorySink::new(alloc, per_call, failing_writes.to_vec(alloc)?);
-    let arena = SerialArena::new(alloc, Policy::profile(), 0, 0, 0);
-    let outcome = run(alloc, &strings, &mut files, &mut out, arena);
-    Ok(End {
-        status: outcome.status,
-        fault: outcome.fault,
-        written: out.taken().to_vec(alloc)?,
-        registers: outcome.registers.len(),
-        space_used: outcome.arena.space_used(),
-        kept: outcome.arena.registered(),
-    })
+    end_over(alloc, words, &[("f", content)], &failing, per_call)
 }
 
 const CAT: &[&str] = &["cat", "builtin", "pb.Tick", "f", "1"];
@@ -599,11 +631,11 @@ const ROWS: [Row; 49] = [
         0,
     ),
     (
-        "another set of types",
+        "a set that isn't there",
         &["cat", "other", "pb.Tick", "f", "1"],
         b"\x00",
-        9,
-        Some(Told::NotBuilt),
+        6,
+        Some(Told::ReadFault),
         NO_FRAMES,
         0,
         0,

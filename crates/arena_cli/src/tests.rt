@@ -136,12 +136,12 @@ fn words_over(alloc: Global, name: &str) -> Result<Vec<String>, AllocError> {
 fn a_file_goes_through_the_program(rt: HostRuntime) -> Result<(), Fail> {
     let alloc = rt.alloc();
     fs::write(&rt, "run.frames", FRAMES)?;
-    for (name, failing_call, status, taken) in [
-        ("run.frames", 0, 0, WRITTEN),
-        ("run.frames", 1, 7, b"".as_slice()),
-        ("run.frames", 2, 7, WRITTEN),
-        ("missing", 0, 6, b"".as_slice()),
-        (".", 0, 6, b"".as_slice()),
+    for (name, failing_call, status, taken, text) in [
+        ("run.frames", 0, 0, WRITTEN, b"".as_slice()),
+        ("run.frames", 1, 7, b"", b""),
+        ("run.frames", 2, 7, WRITTEN, b""),
+        ("missing", 0, 6, b"", b"read fault\n"),
+        (".", 0, 6, b"", b"read fault\n"),
     ] {
         let words = words_over(alloc, name)?;
         let mut files = RealFiles::new(&rt);
@@ -152,10 +152,21 @@ fn a_file_goes_through_the_program(rt: HostRuntime) -> Result<(), Fail> {
             failing_call,
         };
         let mut out = WriterSink::new(&mut writer);
+        let mut error_writer = Failing {
+            taken: Vec::new(alloc),
+            per_call: 64,
+            calls: 0,
+            failing_call,
+        };
+        let mut err = WriterSink::new(&mut error_writer);
         let arena = SerialArena::new(alloc, Policy::profile(), 0, 1, 0);
-        let outcome = run(alloc, &words, &mut files, &mut out, arena);
+        let outcome = run(alloc, &words, &mut files, &mut out, &mut err, arena);
         assert_eq!(rt; outcome.status, status, "{name}, {failing_call}");
         assert_eq!(rt; writer.taken.as_slice(), taken, "{name}, {failing_call}");
+        if failing_call == 0 {
+            let told = error_writer.taken.as_slice();
+            assert_eq!(rt; told, text, "{name}");
+        }
     }
     fs::remove_file(&rt, "run.frames")?;
     Ok(())

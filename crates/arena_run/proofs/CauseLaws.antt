@@ -1,5 +1,5 @@
 -- How the causes of a run follow from those of its parts.
-use Rattle.std.proofs.Common.{◌≡◌, ◌⊎◌, ◌+◌, ◌*◌, ◌^◌, ◌<◌, ◌≤◌, ℕ, zero, suc, List, [], ◌∷◌, length, Option, None, Some, Result, Ok, Err, refl, sym, ap, subst, inl, inr, ⊎_elim, arith}
+use Rattle.std.proofs.Common.{◌≡◌, ◌⊎◌, ◌+◌, ◌*◌, ◌^◌, ◌<◌, ◌≤◌, ℕ, Bool, true, false, zero, suc, List, [], ◌∷◌, length, Option, None, Some, Result, Ok, Err, refl, sym, ap, ◌∙◌, subst, inl, inr, ⊎_elim, arith}
 use Rattle.std.specs.Prelude.{sum_by, IfOk, IfErr, IfSome, IsSomeAnd, IsErrAnd}
 use Rattle.std.specs.Option.{option_map}
 use Rattle.std.specs.List.{slice_get}
@@ -13,33 +13,25 @@ use Rattle.arena_mem.specs.Grows.{Grows}
 use Rattle.arena_mem.specs.Outside.{NamedFiles, content_of, IsThere, TookPart}
 use Rattle.arena_mem.specs.Places.{Places, Buffers}
 use Rattle.arena_mem.proofs.Growth.{growth_widens, same_grows}
-use Rattle.pb_schema.specs.Builtin.{builtin}
 use Rattle.pb_schema.specs.declared.schema.MessageType.{MessageType}
 use Rattle.pb_schema.specs.declared.schema.Schema.{Schema}
 use Rattle.pb_schema.specs.Frames.{frames_of}
-use Rattle.pb_schema.specs.Names.{HasName}
+use Rattle.pb_schema.specs.Lawful.{Lawful}
 use Rattle.pb_schema.specs.Payloads.{trees_of, bad_payload, framed_texts}
 use Rattle.pb_schema.specs.Tree.{Tree}
 use Rattle.arena_run.specs.declared.fault.Fault.{Fault}
-use Rattle.arena_run.specs.declared.fault.Fault.TheVariants.{NoMemory, Usage, NoType, ReadFault, WriteFault, NotBuilt}
-use Rattle.arena_run.specs.Causes.{EndsByWords, ReadsFile, EndsByFile, AreFew, most_made, GrowsByFile}
+use Rattle.arena_run.specs.declared.fault.Fault.TheVariants.{NoMemory, Usage, Schema as SetFault, NoType, FrameCut, BadFrame, ReadFault, WriteFault, TooLong, NotBuilt}
+use Rattle.arena_run.specs.declared.fault.InputKind.TheVariants.{SetBytes, FrameBytes, FrameCount}
+use Rattle.arena_run.specs.Causes.{EndsByWords, ReadsFile, ReadsSet, EndsByFile, AreFew, most_made, GrowsByFile}
 use Rattle.arena_run.specs.Contents.{OfContent, HasTrees, OfTrees}
-use Rattle.arena_run.specs.Ends.{first_stage, last_stage, at_types, at_writing, IsPastWords, EndsWell, EndsBy, IsOfFile, IsOfPayloads, result_fault}
+use Rattle.arena_run.specs.Ends.{first_stage, last_stage, at_words, at_set_reading, at_set, at_types, at_payloads, at_writing, IsPastWords, IsSetRead, EndsWell, EndsBy, EndsBySet, Gives, IsOfSet, IsOfFile, IsOfPayloads, result_fault}
 use Rattle.arena_run.specs.Faults.{bad_frame, payloads_fault, first_fault, trees_in}
 use Rattle.arena_run.specs.Frames.{EndsByFrames, GrowsByFrames, StandsRead}
 use Rattle.arena_run.specs.Stands.{StandShort, StandWritten}
-use Rattle.arena_run.specs.Words.{IsCat, IsTypeOf}
+use Rattle.arena_run.specs.Sets.{IsGiven, is_built_in, set_given}
+use Rattle.arena_run.specs.Words.{IsCat, IsTypeOf, HasNoType}
 use Rattle.arena_run.proofs.Firsts.{parsed_first, has_trees}
-use Rattle.arena_run.proofs.WordForms.{same_type, same_frames}
-
-no_fault : (schema : Schema) → schema ≡ builtin → (type_no : ℕ) (payloads : List (List ℕ)) → bad_payload schema type_no payloads ≡ None → payloads_fault type_no payloads ≡ None
-no_fault schema is type_no payloads sound = ap (option_map bad_frame) (subst (λ s. bad_payload s type_no payloads ≡ None) is sound)
-
--- a type that has a name is one of the types
-found_below : (types : List MessageType) (i : ℕ) (name : List ℕ) → option_map (λ type. type.name) (slice_get types i) ≡ Some name → i < length types
-found_below [] i name e = absurd (none-some name e)
-found_below (type ∷ types) zero name e = omega arith
-found_below (type ∷ types) (suc i) name e = omega (arith, found_below types i name e)
+use Rattle.arena_run.proofs.WordForms.{same_set, same_type, same_frames}
 
 -- what holds of the end holds of a result that has this fault
 pub at_err : {A : Type 0} (r : Result A Fault) (fault : Fault) (P : Option Fault → Type 0) → IsErrAnd r (λ found. found ≡ fault) → P (Some fault) → P (result_fault r)
@@ -53,46 +45,82 @@ some_weaker (Some x) P Q weaker h = weaker x h
 -- TYPES
 
 -- a name is that of one type
-pub same_number : (name : List ℕ) (m n : ℕ) → IsTypeOf name m → IsTypeOf name n → m ≡ n
-same_number name m n p q = ⊎_elim
-    (λ less. absurd (q.1 m less p.0))
-    (λ rest. ⊎_elim (λ more. absurd (p.1 n more q.0)) (λ upper. omega (arith, rest, upper)) (cases_lt n m))
+pub same_number : (schema : Schema) (name : List ℕ) (m n : ℕ) → IsTypeOf schema name m → IsTypeOf schema name n → m ≡ n
+same_number schema name m n p q = ⊎_elim
+    (λ less. absurd (q.first m less p.named))
+    (λ rest. ⊎_elim (λ more. absurd (p.first n more q.named)) (λ upper. omega (arith, rest, upper)) (cases_lt n m))
     (cases_lt m n)
 
+-- a type that is there isn't one that isn't
+pub is_there : (schema : Schema) (name : List ℕ) (type_no : ℕ) → IsTypeOf schema name type_no → HasNoType schema name → ⊥
+is_there schema name type_no is none = none type_no is.fits is.named
+
+-- a type that has a name is one of the types
+found_below : (types : List MessageType) (i : ℕ) (name : List ℕ) → option_map (λ type. type.name) (slice_get types i) ≡ Some name → i < length types
+found_below [] i name e = absurd (none-some name e)
+found_below (type ∷ types) zero name e = omega arith
+found_below (type ∷ types) (suc i) name e = omega (arith, found_below types i name e)
+
+pub type_below : (schema : Schema) (name : List ℕ) (type_no : ℕ) → IsTypeOf schema name type_no → type_no < length schema.types
+type_below schema name type_no is = found_below schema.types type_no name is.named
+
+-- THE SET
+
+pub some_is : {A : Type 0} (o : Option A) (x : A) (P : A → Type 0) → o ≡ Some x → IfSome o P → P x
+some_is o x P e h = let told : IfSome (Some x) P = subst (λ p. IfSome p P) e h in told
+
+-- the schema that the set gives is the one that is told
+pub one_schema : (words : List (List ℕ)) (files : Option NamedFiles) (types schema : Schema) (set type_name frames : List ℕ) → IsGiven words files types → IsCat words set type_name frames → set_given files set ≡ Some (Ok schema) → types ≡ schema
+one_schema words files types schema set type_name frames given is_cat told =
+    let same : ◌≡◌ {A = Result Schema Fault} (Ok schema) (Ok types) = some_is (set_given files set) (Ok schema) (λ answer. answer ≡ Ok types) told (given set type_name frames is_cat) in
+    cc
+
+-- what the words' set gives, by what a set of that name gives
+pub is_given : (words : List (List ℕ)) (files : Option NamedFiles) (types : Schema) (set type_name frames : List ℕ) → IsCat words set type_name frames → IfSome (set_given files set) (λ answer. Gives answer (Ok types)) → IsGiven words files types
+is_given words files types set type_name frames is_cat gives = λ other other_type other_frames other_cat.
+    subst (λ s. IfSome (set_given files s) (λ answer. answer ≡ Ok types)) (same_set words set other type_name other_type frames other_frames is_cat other_cat) gives
+
 -- what holds of the content of the named file holds of that of each file that the words name, at the type that they name
-pub of_named : (words : List (List ℕ)) (files : Option NamedFiles) (type_name name : List ℕ) (type_no : ℕ) (P : ℕ → List ℕ → Type 0) → IsCat words type_name name → IsTypeOf type_name type_no
-    → IfSome (content_of files name) (P type_no) → OfContent words files P
-of_named words files type_name name type_no P is_cat is_type h = λ other_type frames content other_no other is found.
-    let same : type_no ≡ other_no = same_number type_name type_no other_no is_type (subst (λ n. IsTypeOf n other_no) (same_type words other_type type_name frames name other is_cat) is) in
-    subst (λ n. P n content) same (subst (λ o. IfSome o (P type_no)) (subst (λ n. content_of files n ≡ Some content) (same_frames words other_type type_name frames name other is_cat) found) h)
+pub of_named : (words : List (List ℕ)) (files : Option NamedFiles) (types : Schema) (set type_name name : List ℕ) (type_no : ℕ) (P : Schema → ℕ → List ℕ → Type 0) → IsCat words set type_name name → IsGiven words files types → IsTypeOf types type_name type_no
+    → IfSome (content_of files name) (P types type_no) → OfContent words files P
+of_named words files types set type_name name type_no P is_cat given is_type h = λ other other_type frames content schema other_no other_cat told is found.
+    let same_types : types ≡ schema = one_schema words files types schema other other_type frames given other_cat told in
+    let other_is : IsTypeOf types type_name other_no = subst (λ n. IsTypeOf types n other_no) (same_type words other set other_type type_name frames name other_cat is_cat) (subst (λ s. IsTypeOf s other_type other_no) (sym same_types) is) in
+    let same : type_no ≡ other_no = same_number types type_name type_no other_no is_type other_is in
+    let content_is : content_of files name ≡ Some content = subst (λ n. content_of files n ≡ Some content) (same_frames words other set other_type type_name frames name other_cat is_cat) found in
+    let here : P types type_no content = some_is (content_of files name) content (P types type_no) content_is h in
+    subst (λ s. P s other_no content) same_types (subst (λ n. P types n content) same here)
 
--- no type has the name
-pub of_none : (words : List (List ℕ)) (files : Option NamedFiles) (P : ℕ → List ℕ → Type 0) → ((type_no : ℕ) (content : List ℕ) → P type_no content) → OfContent words files P
-of_none words files P all = λ type_name frames content type_no is_cat is_type found. all type_no content
+-- whatever they name
+pub of_none : (words : List (List ℕ)) (files : Option NamedFiles) (P : Schema → ℕ → List ℕ → Type 0) → ((schema : Schema) (type_no : ℕ) (content : List ℕ) → P schema type_no content) → OfContent words files P
+of_none words files P all = λ set type_name frames content schema type_no is_cat told is_type found. all schema type_no content
 
-pub of_trees : (words : List (List ℕ)) (files : Option NamedFiles) (P Q : ℕ → List Tree → Type 0) → ((type_no : ℕ) (trees : List Tree) → P type_no trees → Q type_no trees) → OfTrees words files P → OfTrees words files Q
-of_trees words files P Q weaker h = λ type_name frames content type_no is_cat is_type found.
-    let has = h type_name frames content type_no is_cat is_type found in
-    record { sound = has.sound; trees = some_weaker (trees_in type_no content) (P type_no) (Q type_no) (weaker type_no) has.trees }
+pub of_trees : (words : List (List ℕ)) (files : Option NamedFiles) (types : Schema) (P Q : Schema → ℕ → List Tree → Type 0) → IsGiven words files types → ((type_no : ℕ) (trees : List Tree) → P types type_no trees → Q types type_no trees) → OfTrees words files P → OfTrees words files Q
+of_trees words files types P Q given weaker h = λ set type_name frames content schema type_no is_cat told is_type found.
+    let has = h set type_name frames content schema type_no is_cat told is_type found in
+    let same : types ≡ schema = one_schema words files types schema set type_name frames given is_cat told in
+    let law : (trees : List Tree) → P schema type_no trees → Q schema type_no trees = subst (λ s. (trees : List Tree) → P s type_no trees → Q s type_no trees) same (weaker type_no) in
+    record { sound = has.sound; trees = some_weaker (trees_in schema type_no content) (P schema type_no) (Q schema type_no) law has.trees }
 
--- a file without a fault, where nothing failed
-pub ends_well : (first end : Option Fault) → IsPastWords end → ((name : List ℕ) → end ≡ Some (NoType name) → ⊥) → EndsBy first end → first ≡ None → (end ≡ Some ReadFault → ⊥) → (end ≡ Some WriteFault → ⊥) → EndsWell end
-ends_well first None past typed by sound read written = inl refl
-ends_well first (Some NoMemory) past typed by sound read written = inr refl
-ends_well first (Some Usage) past typed by sound read written = absurd (omega (arith, past))
-ends_well first (Some ReadFault) past typed by sound read written = absurd (read refl)
-ends_well first (Some WriteFault) past typed by sound read written = absurd (written refl)
-ends_well first (Some NotBuilt) past typed by sound read written = absurd (omega (arith, past))
-ends_well first (Some (NoType name)) past typed by sound read written = absurd (typed name refl)
-ends_well first (Some fault) past typed by sound read written = absurd (let is = by.fault (omega arith) (omega arith) in cc)
-
--- a type that is there isn't told as one that isn't
-pub is_typed : (words : List (List ℕ)) (end : Option Fault) (type_name frames : List ℕ) (type_no : ℕ) → EndsByWords words end → IsCat words type_name frames → IsTypeOf type_name type_no → (name : List ℕ) → end ≡ Some (NoType name) → ⊥
-is_typed words end type_name frames type_no by is_cat is_type name is =
-    let none = by.no_type name is in
-    let same : name ≡ type_name = same_type words name type_name none.0 frames none.1 is_cat in
-    let below : type_no < 2 = found_below builtin.types type_no type_name is_type.0 in
-    none.2 type_no (omega (arith, below)) (subst (λ n. HasName builtin n type_no) (sym same) is_type.0)
+-- a set that gives a schema with the type, and a file without a fault, where nothing failed
+pub ends_well : (schema : Schema) (type_name : List ℕ) (type_no : ℕ) (first end : Option Fault) → IsPastWords end → EndsBySet (Ok schema) type_name end → IsTypeOf schema type_name type_no → EndsBy first end → first ≡ None → (end ≡ Some ReadFault → ⊥) → (end ≡ Some WriteFault → ⊥) → EndsWell end
+ends_well schema type_name type_no first None past set typed by sound read written = inl refl
+ends_well schema type_name type_no first (Some NoMemory) past set typed by sound read written = inr refl
+ends_well schema type_name type_no first (Some Usage) past set typed by sound read written = absurd (omega (arith, past))
+ends_well schema type_name type_no first (Some (SetFault refused)) past set typed by sound read written = absurd (let is = set.fault (omega arith) (omega arith) in cc)
+ends_well schema type_name type_no first (Some ReadFault) past set typed by sound read written = absurd (read refl)
+ends_well schema type_name type_no first (Some WriteFault) past set typed by sound read written = absurd (written refl)
+ends_well schema type_name type_no first (Some NotBuilt) past set typed by sound read written = absurd (omega (arith, past))
+ends_well schema type_name type_no first (Some (NoType name)) past set typed by sound read written =
+    let none = set.no_type name refl in
+    let told = none.1 in
+    let same : schema ≡ none.0 = cc in
+    absurd (is_there schema type_name type_no typed (subst (λ s. HasNoType s type_name) (sym same) none.2))
+ends_well schema type_name type_no first (Some (TooLong SetBytes limit)) past set typed by sound read written = absurd (let is = set.fault (omega arith) (omega arith) in cc)
+ends_well schema type_name type_no first (Some (TooLong FrameBytes limit)) past set typed by sound read written = absurd (let is = by.fault (omega arith) (omega arith) in cc)
+ends_well schema type_name type_no first (Some (TooLong FrameCount limit)) past set typed by sound read written = absurd (let is = by.fault (omega arith) (omega arith) in cc)
+ends_well schema type_name type_no first (Some (FrameCut index)) past set typed by sound read written = absurd (let is = by.fault (omega arith) (omega arith) in cc)
+ends_well schema type_name type_no first (Some (BadFrame index fault)) past set typed by sound read written = absurd (let is = by.fault (omega arith) (omega arith) in cc)
 
 -- THE TREES
 
@@ -100,48 +128,52 @@ some_there : {A : Type 0} (o : Option A) (P : A → Type 0) → IsSomeAnd o P �
 some_there None P h = absurd h
 some_there (Some x) P h = (x, h)
 
+-- messages that stand for what a file holds stand for that of the file that the words name
+pub trees_named : (words : List (List ℕ)) (files now : Option NamedFiles) (types : Schema) (set type_name name : List ℕ) (type_no : ℕ) (places : Places) (buffers : Buffers) (messages : List MsgRef) → IsCat words set type_name name → IsGiven words files types → IsTypeOf types type_name type_no → now ≡ files
+    → StandsRead types places buffers (content_of now name) type_no messages → OfTrees words files (λ schema n trees. StandShort schema places buffers n messages trees)
+trees_named words files now types set type_name name type_no places buffers messages is_cat given is_type same st =
+    of_named words files types set type_name name type_no (λ schema n content. HasTrees schema n content (λ trees. StandShort schema places buffers n messages trees)) is_cat given is_type
+    (subst (λ c. IfSome (content_of c name) (λ content. HasTrees types type_no content (λ trees. StandShort types places buffers type_no messages trees))) same st.told)
+
 -- the messages of the payloads of a file stand for its trees
-pub stands_read : (schema : Schema) → schema ≡ builtin → (type_no : ℕ) (places : Places) (buffers : Buffers) (found : Option (List ℕ)) (messages : List MsgRef) (payloads : List (List ℕ)) → length payloads ≤ 2 ^ 20
+pub stands_read : (schema : Schema) (type_no : ℕ) (places : Places) (buffers : Buffers) (found : Option (List ℕ)) (messages : List MsgRef) (payloads : List (List ℕ)) → length payloads ≤ 2 ^ 20
     → IfSome found (λ content. (length content ≤ 2 ^ 24) × (frames_of content ≡ Ok payloads)) → bad_payload schema type_no payloads ≡ None
-    → IsSomeAnd (trees_of schema type_no payloads) (StandShort schema places buffers type_no messages) → StandsRead places buffers found type_no messages
-stands_read schema is type_no places buffers found messages payloads few whole sound stand =
-    let Those : List Tree → Type 0 = StandShort builtin places buffers type_no messages in
-    let stand_there : IsSomeAnd (trees_of builtin type_no payloads) Those = subst (λ s. IsSomeAnd (trees_of s type_no payloads) (StandShort s places buffers type_no messages)) is stand in
-    let one = some_there (trees_of builtin type_no payloads) Those stand_there in
-    record { trees = one.0; stand = one.1; told = told found whole stand_there }
+    → IsSomeAnd (trees_of schema type_no payloads) (StandShort schema places buffers type_no messages) → StandsRead schema places buffers found type_no messages
+stands_read schema type_no places buffers found messages payloads few whole sound stand =
+    let one = some_there (trees_of schema type_no payloads) (StandShort schema places buffers type_no messages) stand in
+    record { trees = one.0; stand = one.1; told = told found whole }
   where
-    told : (o : Option (List ℕ)) → IfSome o (λ content. (length content ≤ 2 ^ 24) × (frames_of content ≡ Ok payloads)) → IsSomeAnd (trees_of builtin type_no payloads) (StandShort builtin places buffers type_no messages)
-        → IfSome o (λ content. HasTrees type_no content (StandShort builtin places buffers type_no messages))
-    told None h there = tt
-    told (Some content) h there = has_trees type_no content payloads (StandShort builtin places buffers type_no messages) (record { few_bytes = h.0; frames = h.1 }) few (no_fault schema is type_no payloads sound) there
+    told : (o : Option (List ℕ)) → IfSome o (λ content. (length content ≤ 2 ^ 24) × (frames_of content ≡ Ok payloads)) → IfSome o (λ content. HasTrees schema type_no content (StandShort schema places buffers type_no messages))
+    told None h = tt
+    told (Some content) h = has_trees schema type_no content payloads (StandShort schema places buffers type_no messages) (record { few_bytes = h.0; frames = h.1 }) few (ap (option_map bad_frame) sound) stand
 
 -- the same where they were parsed
-pub stands_parsed : {A : Type 0} (parsed : Result A Fault) (items : A → List MsgRef) (schema : Schema) → schema ≡ builtin → (type_no : ℕ) (places : Places) (buffers : Buffers) (found : Option (List ℕ)) (payloads : List (List ℕ)) → length payloads ≤ 2 ^ 20
+pub stands_parsed : {A : Type 0} (parsed : Result A Fault) (items : A → List MsgRef) (schema : Schema) (type_no : ℕ) (places : Places) (buffers : Buffers) (found : Option (List ℕ)) (payloads : List (List ℕ)) → length payloads ≤ 2 ^ 20
     → IfSome found (λ content. (length content ≤ 2 ^ 24) × (frames_of content ≡ Ok payloads)) → IfOk parsed (λ _. bad_payload schema type_no payloads ≡ None)
-    → IfOk parsed (λ x. IsSomeAnd (trees_of schema type_no payloads) (StandShort schema places buffers type_no (items x))) → IfOk parsed (λ x. StandsRead places buffers found type_no (items x))
-stands_parsed (Ok x) items schema is type_no places buffers found payloads few whole sound stand = stands_read schema is type_no places buffers found (items x) payloads few whole sound stand
-stands_parsed (Err fault) items schema is type_no places buffers found payloads few whole sound stand = tt
+    → IfOk parsed (λ x. IsSomeAnd (trees_of schema type_no payloads) (StandShort schema places buffers type_no (items x))) → IfOk parsed (λ x. StandsRead schema places buffers found type_no (items x))
+stands_parsed (Ok x) items schema type_no places buffers found payloads few whole sound stand = stands_read schema type_no places buffers found (items x) payloads few whole sound stand
+stands_parsed (Err fault) items schema type_no places buffers found payloads few whole sound stand = tt
 
--- what is written for trees by the types that are built in
-pub texts_at : (schema : Schema) → schema ≡ builtin → (places : Places) (buffers : Buffers) (lent messages : List MsgRef) → lent ≡ messages → (Took : List ℕ → Type 0)
+-- what is written for trees, of messages that were lent
+pub texts_at : (schema : Schema) (places : Places) (buffers : Buffers) (lent messages : List MsgRef) → lent ≡ messages → (Took : List ℕ → Type 0)
     → ((type_no : ℕ) (trees : List Tree) → StandShort schema places buffers type_no lent trees → Took (framed_texts schema type_no trees))
-    → (type_no : ℕ) (trees : List Tree) → StandShort builtin places buffers type_no messages trees → Took (framed_texts builtin type_no trees)
-texts_at schema is places buffers lent messages same Took wrote type_no trees all =
-    subst (λ s. Took (framed_texts s type_no trees)) is
-    (wrote type_no trees (subst (λ xs. StandShort schema places buffers type_no xs trees) (sym same) (subst (λ s. StandShort s places buffers type_no messages trees) (sym is) all)))
+    → (type_no : ℕ) (trees : List Tree) → StandShort schema places buffers type_no messages trees → Took (framed_texts schema type_no trees)
+texts_at schema places buffers lent messages same Took wrote type_no trees all = wrote type_no trees (subst (λ xs. StandShort schema places buffers type_no xs trees) (sym same) all)
 
--- messages that can be written by the layouts of those types
-pub stand_at : (schema : Schema) → schema ≡ builtin → (places : Places) (buffers : Buffers) (lent messages : List MsgRef) → lent ≡ messages → (type_no : ℕ) × (trees : List Tree) × StandShort builtin places buffers type_no messages trees
+-- messages that can be written
+pub stand_at : (schema : Schema) (places : Places) (buffers : Buffers) (lent messages : List MsgRef) → lent ≡ messages → (type_no : ℕ) × (trees : List Tree) × StandShort schema places buffers type_no messages trees
     → (type_no : ℕ) × (trees : List Tree) × StandShort schema places buffers type_no lent trees
-stand_at schema is places buffers lent messages same st = (st.0, st.1, subst (λ xs. StandShort schema places buffers st.0 xs st.1) (sym same) (subst (λ s. StandShort s places buffers st.0 messages st.1) (sym is) st.2))
+stand_at schema places buffers lent messages same st = (st.0, st.1, subst (λ xs. StandShort schema places buffers st.0 xs st.1) (sym same) st.2)
 
-pub written_well : (places : Places) (buffers : Buffers) (messages : List MsgRef) (was now : Option (List ℕ)) → (type_no : ℕ) × (trees : List Tree) × StandShort builtin places buffers type_no messages trees
-    → ((type_no : ℕ) (trees : List Tree) → StandShort builtin places buffers type_no messages trees → Appends was now (framed_texts builtin type_no trees)) → StandWritten builtin places buffers messages None was now
-written_well places buffers messages was now st wrote = record { type_no = st.0; trees = st.1; stand = st.2.apart; all = λ _. wrote st.0 st.1 st.2; part = λ is. absurd (cc) }
+pub written_well : (words : List (List ℕ)) (files : Option NamedFiles) (schema : Schema) (places : Places) (buffers : Buffers) (messages : List MsgRef) (was now : Option (List ℕ)) → Lawful schema → IsGiven words files schema
+    → (type_no : ℕ) × (trees : List Tree) × StandShort schema places buffers type_no messages trees
+    → ((type_no : ℕ) (trees : List Tree) → StandShort schema places buffers type_no messages trees → Appends was now (framed_texts schema type_no trees)) → StandWritten words files places buffers messages None was now
+written_well words files schema places buffers messages was now lawful given st wrote = record { schema = schema; lawful = lawful; given = given; type_no = st.0; trees = st.1; stand = st.2.apart; all = λ _. wrote st.0 st.1 st.2; part = λ is. absurd (cc) }
 
-pub written_part : (places : Places) (buffers : Buffers) (messages : List MsgRef) (was now : Option (List ℕ)) → (type_no : ℕ) × (trees : List Tree) × StandShort builtin places buffers type_no messages trees
-    → ((type_no : ℕ) (trees : List Tree) → StandShort builtin places buffers type_no messages trees → TookPart was now (framed_texts builtin type_no trees)) → StandWritten builtin places buffers messages (Some WriteFault) was now
-written_part places buffers messages was now st took = record { type_no = st.0; trees = st.1; stand = st.2.apart; all = λ is. absurd (cc); part = λ _. took st.0 st.1 st.2 }
+pub written_part : (words : List (List ℕ)) (files : Option NamedFiles) (schema : Schema) (places : Places) (buffers : Buffers) (messages : List MsgRef) (was now : Option (List ℕ)) → Lawful schema → IsGiven words files schema
+    → (type_no : ℕ) × (trees : List Tree) × StandShort schema places buffers type_no messages trees
+    → ((type_no : ℕ) (trees : List Tree) → StandShort schema places buffers type_no messages trees → TookPart was now (framed_texts schema type_no trees)) → StandWritten words files places buffers messages (Some WriteFault) was now
+written_part words files schema places buffers messages was now lawful given st took = record { schema = schema; lawful = lawful; given = given; type_no = st.0; trees = st.1; stand = st.2.apart; all = λ is. absurd (cc); part = λ _. took st.0 st.1 st.2 }
 
 -- THE FRAMES FILE
 
@@ -149,6 +181,63 @@ written_part places buffers messages was now st took = record { type_no = st.0; 
 pub file_before : (fault : Fault) → IsOfFile fault → last_stage (Some fault) < at_writing
 file_before NoMemory kind = omega arith
 file_before fault kind = let before = kind.before in omega (arith, before)
+
+pub set_before : (fault : Fault) → IsOfSet fault → last_stage (Some fault) < at_writing
+set_before NoMemory kind = omega arith
+set_before ReadFault kind = omega arith
+set_before fault kind = let before = kind.before in omega (arith, before)
+
+-- a part that read the set, at its fault
+set_refused : (answer : Result Schema Fault) (fault : Fault) (type_name : List ℕ) → IsOfSet fault → Gives answer (Err fault) → EndsBySet answer type_name (Some fault)
+set_refused answer fault type_name kind gives = record {
+  fault = λ read _. ap result_fault (gives read);
+  no_type = λ name is. absurd (let before = kind.before in let told : first_stage (Some (NoType name)) ≤ at_set = subst (λ e. first_stage e ≤ at_set) is before in omega (arith, told));
+  type = λ past. absurd (let before = kind.before in omega (arith, past, before));
+}
+
+-- the type wasn't found, or there was no memory to name it
+type_refused : (schema : Schema) (fault : Fault) (type_name : List ℕ) → (fault ≡ NoMemory) ⊎ ((fault ≡ NoType type_name) × HasNoType schema type_name) → EndsBySet (Ok schema) type_name (Some fault)
+type_refused schema fault type_name (inl same) = subst (λ f. EndsBySet (Ok schema) type_name (Some f)) (sym same) (record {
+  fault = λ read _. absurd (omega (arith, read));
+  no_type = λ name is. absurd (cc);
+  type = λ past. absurd (omega (arith, past));
+})
+type_refused schema fault type_name (inr none) = subst (λ f. EndsBySet (Ok schema) type_name (Some f)) (sym none.0) (record {
+  fault = λ _ untyped. absurd (omega (arith, untyped));
+  no_type = λ name is. (schema, refl, none.1);
+  type = λ past. absurd (omega (arith, past));
+})
+
+-- the type was found
+type_found : (schema : Schema) (end : Option Fault) (type_name : List ℕ) (type_no : ℕ) → IsTypeOf schema type_name type_no → at_types < last_stage end → EndsBySet (Ok schema) type_name end
+type_found schema end type_name type_no is_type past = record {
+  fault = λ _ untyped. absurd (omega (arith, untyped, past));
+  no_type = λ name is. absurd (let told : at_types < last_stage (Some (NoType name)) = subst (λ e. at_types < last_stage e) is past in omega (arith, told));
+  type = λ _. (schema, type_no, refl, is_type);
+}
+
+-- what a set that was read gives
+given_weaker : (o : Option (Result Schema Fault)) (schema : Schema) (P : Result Schema Fault → Type 0) → P (Ok schema) → IfSome o (λ answer. answer ≡ Ok schema) → IfSome o P
+given_weaker None schema P p h = tt
+given_weaker (Some answer) schema P p h = subst P (sym h) p
+
+given_maps : (o : Option (Result Schema Fault)) (P Q : Result Schema Fault → Type 0) → ((answer : Result Schema Fault) → P answer → Q answer) → IfSome o P → IfSome o Q
+given_maps None P Q weaker h = tt
+given_maps (Some answer) P Q weaker h = weaker answer h
+
+-- past the reading of a file, no fault of reading nor want of memory came
+not_failed : (end : Option Fault) → at_set_reading < first_stage end → end ≡ Some ReadFault → ⊥
+not_failed end read is = let told : at_set_reading < first_stage (Some ReadFault) = subst (λ e. at_set_reading < first_stage e) is read in omega (arith, told)
+
+not_wanting : (end : Option Fault) → at_set_reading < first_stage end → end ≡ Some NoMemory → ⊥
+not_wanting end read is = let told : at_set_reading < first_stage (Some NoMemory) = subst (λ e. at_set_reading < first_stage e) is read in omega (arith, told)
+
+either_set : (set : List ℕ) (P : Type 0) → (is_built_in set ≡ true → P) → (is_built_in set ≡ false → P) → P
+either_set set P built other = by (is_built_in set) built other
+  where
+    by : (b : Bool) → (b ≡ true → P) → (b ≡ false → P) → P
+    by true built other = built refl
+    by false built other = other refl
 
 module _ {S : Type 0} (contents_of : S → Option NamedFiles) (faults_of : S → ℕ) (blamed_of : S → Option (List ℕ)) where
   -- what was read stays so on later ends
@@ -159,41 +248,48 @@ module _ {S : Type 0} (contents_of : S → Option NamedFiles) (faults_of : S →
     read_fault = λ is. absurd (other is);
     blamed = λ is. absurd (other is);
     unblamed = λ _. reads.unblamed (λ is. cc);
-    there = λ _. reads.there (omega arith);
+    there = λ _ _. reads.there (λ is. cc) (λ is. cc);
   }
 
+  -- no call changes what the files hold
+  pub set_contents : (set : List ℕ) (old new : S) (end : Option Fault) → ReadsSet contents_of faults_of blamed_of set old new end → contents_of new ≡ contents_of old
+  set_contents set old new end reads = either_set set _ (λ built. ap contents_of (reads.built_in built).0) (λ other. (reads.in_file other).contents)
+
   -- there was no memory for the name
-  pub frames_none : (type_no : ℕ) (name : List ℕ) (now : S) → EndsByFrames contents_of faults_of blamed_of type_no name now now (Some NoMemory)
-  frames_none type_no name now = record {
-    reads = record { contents = refl; counts = omega arith; read_fault = λ is. absurd (cc); blamed = λ is. absurd (cc); unblamed = λ _. refl; there = λ read. absurd (omega (arith, read)) };
+  pub reads_none : (name : List ℕ) (now : S) → ReadsFile contents_of faults_of blamed_of name now now (Some NoMemory)
+  reads_none name now = record { contents = refl; counts = omega arith; read_fault = λ is. absurd (cc); blamed = λ is. absurd (cc); unblamed = λ _. refl; there = λ _ found. absurd (found refl) }
+
+  pub frames_none : (schema : Schema) (type_no : ℕ) (name : List ℕ) (now : S) → EndsByFrames contents_of faults_of blamed_of schema type_no name now now (Some NoMemory)
+  frames_none schema type_no name now = record {
+    reads = reads_none name now;
     first = unread (content_of (contents_of now) name);
     past = omega arith;
     before = λ fault is. omega arith;
   }
     where
-      unread : (found : Option (List ℕ)) → IfSome found (λ content. EndsBy (first_fault type_no content) (Some NoMemory))
+      unread : (found : Option (List ℕ)) → IfSome found (λ content. EndsBy (first_fault schema type_no content) (Some NoMemory))
       unread None = tt
       unread (Some content) = record { fault = λ read _. absurd (omega (arith, read)); none = λ parsed. absurd (omega (arith, parsed)) }
 
   -- the file wasn't read to its end, or isn't cut into frames
-  pub frames_refused : (type_no : ℕ) (name : List ℕ) (old new : S) (fault : Fault) → ReadsFile contents_of faults_of blamed_of name old new (Some fault) → IsOfFile fault
-      → IfSome (content_of (contents_of old) name) (λ content. (n : ℕ) → EndsBy (first_fault n content) (Some fault)) → EndsByFrames contents_of faults_of blamed_of type_no name old new (Some fault)
-  frames_refused type_no name old new fault reads kind first = record {
+  pub frames_refused : (schema : Schema) (type_no : ℕ) (name : List ℕ) (old new : S) (fault : Fault) → ReadsFile contents_of faults_of blamed_of name old new (Some fault) → IsOfFile fault
+      → IfSome (content_of (contents_of old) name) (λ content. (s : Schema) (n : ℕ) → EndsBy (first_fault s n content) (Some fault)) → EndsByFrames contents_of faults_of blamed_of schema type_no name old new (Some fault)
+  frames_refused schema type_no name old new fault reads kind first = record {
     reads = reads;
     first = at_type (content_of (contents_of old) name) first;
     past = kind.past;
     before = λ _ _. file_before fault kind;
   }
     where
-      at_type : (found : Option (List ℕ)) → IfSome found (λ content. (n : ℕ) → EndsBy (first_fault n content) (Some fault)) → IfSome found (λ content. EndsBy (first_fault type_no content) (Some fault))
+      at_type : (found : Option (List ℕ)) → IfSome found (λ content. (s : Schema) (n : ℕ) → EndsBy (first_fault s n content) (Some fault)) → IfSome found (λ content. EndsBy (first_fault schema type_no content) (Some fault))
       at_type None h = tt
-      at_type (Some content) h = h type_no
+      at_type (Some content) h = h schema type_no
 
   -- its payloads were parsed
-  pub frames_parsed : {A : Type 0} (type_no : ℕ) (name : List ℕ) (old new : S) (parsed : Result A Fault) (payloads : List (List ℕ)) (schema : Schema) → schema ≡ builtin → ReadsFile contents_of faults_of blamed_of name old new None → length payloads ≤ 2 ^ 20
+  pub frames_parsed : {A : Type 0} (schema : Schema) (type_no : ℕ) (name : List ℕ) (old new : S) (parsed : Result A Fault) (payloads : List (List ℕ)) → ReadsFile contents_of faults_of blamed_of name old new None → length payloads ≤ 2 ^ 20
       → IfSome (content_of (contents_of old) name) (λ content. (length content ≤ 2 ^ 24) × (frames_of content ≡ Ok payloads)) → IfErr parsed IsOfPayloads → IfErr parsed (λ fault. (fault ≡ NoMemory) ⊎ (option_map bad_frame (bad_payload schema type_no payloads) ≡ Some fault))
-      → IfOk parsed (λ _. bad_payload schema type_no payloads ≡ None) → EndsByFrames contents_of faults_of blamed_of type_no name old new (result_fault parsed)
-  frames_parsed {A} type_no name old new parsed payloads schema is reads few whole kind fault sound = record {
+      → IfOk parsed (λ _. bad_payload schema type_no payloads ≡ None) → EndsByFrames contents_of faults_of blamed_of schema type_no name old new (result_fault parsed)
+  frames_parsed {A} schema type_no name old new parsed payloads reads few whole kind fault sound = record {
     reads = reads_on name old new (result_fault parsed) reads (other parsed kind);
     first = first (content_of (contents_of old) name) whole;
     past = past parsed kind;
@@ -212,45 +308,117 @@ module _ {S : Type 0} (contents_of : S → Option NamedFiles) (faults_of : S →
       other (Ok x) kind is = cc
       other (Err fault) kind is = let same : fault ≡ ReadFault = cc in let told : IsOfPayloads ReadFault = subst IsOfPayloads same kind in omega (arith, told)
 
-      first : (found : Option (List ℕ)) → IfSome found (λ content. (length content ≤ 2 ^ 24) × (frames_of content ≡ Ok payloads)) → IfSome found (λ content. EndsBy (first_fault type_no content) (result_fault parsed))
+      first : (found : Option (List ℕ)) → IfSome found (λ content. (length content ≤ 2 ^ 24) × (frames_of content ≡ Ok payloads)) → IfSome found (λ content. EndsBy (first_fault schema type_no content) (result_fault parsed))
       first None h = tt
-      first (Some content) h = parsed_first type_no parsed content payloads (record { few_bytes = h.0; frames = h.1 }) few kind
-          (subst (λ (s : Schema). IfErr parsed (λ f. (f ≡ NoMemory) ⊎ (option_map bad_frame (bad_payload s type_no payloads) ≡ Some f))) is fault)
-          (IfOk-weaker parsed (λ _. bad_payload schema type_no payloads ≡ None) (λ _. payloads_fault type_no payloads ≡ None) (λ x. no_fault schema is type_no payloads) sound)
+      first (Some content) h = parsed_first schema type_no parsed content payloads (record { few_bytes = h.0; frames = h.1 }) few kind fault
+          (IfOk-weaker parsed (λ _. bad_payload schema type_no payloads ≡ None) (λ _. payloads_fault schema type_no payloads ≡ None) (λ x none. ap (option_map bad_frame) none) sound)
 
   -- THE RUN
 
-  -- a run that ends before a file is picked
-  pub file_of_none : (words : List (List ℕ)) (now : S) (end : Option Fault) → first_stage end ≤ at_types → EndsByFile contents_of faults_of blamed_of words now now end
-  file_of_none words now end early = record {
+  -- a run that ends by its words
+  pub file_of_none : (words : List (List ℕ)) (now : S) (end : Option Fault) → EndsByWords words end → last_stage end ≤ at_words → EndsByFile contents_of faults_of blamed_of words now now end
+  file_of_none words now end by early = record {
     contents = refl;
     counts = omega arith;
     untouched = λ _. refl;
+    untouched_types = λ _ _ _ _ _ _. refl;
     read_fault = λ is. absurd (not_read is);
     blamed = λ is. absurd (not_read is);
     unblamed = λ _. refl;
-    there = λ _ _ _ read. absurd (omega (arith, read, early));
-    first = λ _ _ _ _ _ _ _. record { fault = λ read _. absurd (omega (arith, read, early)); none = λ parsed. absurd (omega (arith, parsed, early)) };
+    set_there = λ set type_name frames is_cat. absurd (named set type_name frames is_cat);
+    there = λ set type_name frames is_cat. absurd (named set type_name frames is_cat);
+    set = λ set type_name frames is_cat. absurd (named set type_name frames is_cat);
+    first = λ set type_name frames content schema type_no is_cat. absurd (named set type_name frames is_cat);
   }
     where
+      named : (set type_name frames : List ℕ) → IsCat words set type_name frames → ⊥
+      named set type_name frames is_cat = let past = by.command.1 (set, type_name, frames, is_cat) in omega (arith, past, early)
+
       not_read : end ≡ Some ReadFault → ⊥
-      not_read is = let told : first_stage (Some ReadFault) ≤ at_types = subst (λ e. first_stage e ≤ at_types) is early in omega (arith, told)
+      not_read is = let told : last_stage (Some ReadFault) ≤ at_words = subst (λ e. last_stage e ≤ at_words) is early in omega (arith, told)
+
+  -- the same facts of a run that ends before the frames file is picked
+  before_frames : (words : List (List ℕ)) (set type_name name : List ℕ) (old new : S) (read : Option Fault) (end : Option Fault) → IsCat words set type_name name → ReadsSet contents_of faults_of blamed_of set old new read
+      → first_stage end ≤ at_types → at_words < last_stage end → (end ≡ Some ReadFault → read ≡ Some ReadFault) → (read ≡ Some ReadFault → end ≡ Some ReadFault) → (IsSetRead end → read ≡ Some NoMemory → ⊥)
+      → IfSome (set_given (contents_of old) set) (λ answer. EndsBySet answer type_name end) → EndsByFile contents_of faults_of blamed_of words old new end
+  before_frames words set type_name name old new read end is_cat reads early past failed failing found by_set = record {
+    contents = either_set set _ (λ built. ap contents_of (reads.built_in built).0) (λ other. (reads.in_file other).contents);
+    counts = either_set set _ (λ built. let same = ap faults_of (reads.built_in built).0 in omega (arith, same)) (λ other. (reads.in_file other).counts);
+    untouched = λ of_words. absurd (omega (arith, of_words, past));
+    untouched_types = λ a_set other_type frames other_cat built _. (reads.built_in (subst (λ s. is_built_in s ≡ true) (same_set words a_set set other_type type_name frames name other_cat is_cat) built)).0;
+    read_fault = λ is. (reads.in_file (in_file is)).read_fault (failed is);
+    blamed = λ is. (set, type_name, name, is_cat, inl (in_file is, (reads.in_file (in_file is)).blamed (failed is)));
+    unblamed = λ not. either_set set _ (λ built. ap blamed_of (reads.built_in built).0) (λ other. (reads.in_file other).unblamed (λ is. not (failing is)));
+    set_there = λ a_set other_type frames other_cat other set_read.
+        let same = same_set words set a_set type_name other_type name frames is_cat other_cat in
+        subst (IsThere (contents_of old)) same ((reads.in_file (subst (λ s. is_built_in s ≡ false) (sym same) other)).there (λ is. not_failed end set_read (failing is)) (found set_read));
+    there = λ _ _ _ _ was_read. absurd (omega (arith, was_read, early));
+    set = λ other other_type frames other_cat.
+        subst (λ s. IfSome (set_given (contents_of old) s) (λ answer. EndsBySet answer other_type end)) (same_set words set other type_name other_type name frames is_cat other_cat)
+        (subst (λ t. IfSome (set_given (contents_of old) set) (λ answer. EndsBySet answer t end)) (same_type words set other type_name other_type name frames is_cat other_cat) by_set);
+    first = λ _ _ _ _ _ _ _ _ _ _. record { fault = λ was_read _. absurd (omega (arith, was_read, early)); none = λ parsed. absurd (omega (arith, parsed, early)) };
+  }
+    where
+      in_file : end ≡ Some ReadFault → is_built_in set ≡ false
+      in_file is = either_set set _ (λ built. absurd ((reads.built_in built).1 (failed is))) (λ other. other)
+
+  -- the set wasn't taken
+  pub file_of_set : (words : List (List ℕ)) (set type_name name : List ℕ) (old new : S) (fault : Fault) → IsCat words set type_name name → ReadsSet contents_of faults_of blamed_of set old new (Some fault) → IsOfSet fault
+      → IfSome (set_given (contents_of old) set) (λ answer. Gives answer (Err fault)) → EndsByFile contents_of faults_of blamed_of words old new (Some fault)
+  file_of_set words set type_name name old new fault is_cat reads kind gives =
+      let before = kind.before in
+      before_frames words set type_name name old new (Some fault) (Some fault) is_cat reads (omega (arith, before)) kind.past (λ is. is) (λ is. is) (λ set_read. not_wanting (Some fault) set_read)
+      (given_maps (set_given (contents_of old) set) _ _ (λ answer. set_refused answer fault type_name kind) gives)
+
+  -- the type wasn't found
+  pub file_of_type : (words : List (List ℕ)) (set type_name name : List ℕ) (old new : S) (schema : Schema) (fault : Fault) → IsCat words set type_name name → ReadsSet contents_of faults_of blamed_of set old new None
+      → IfSome (set_given (contents_of old) set) (λ answer. answer ≡ Ok schema) → (fault ≡ NoMemory) ⊎ ((fault ≡ NoType type_name) × HasNoType schema type_name) → EndsByFile contents_of faults_of blamed_of words old new (Some fault)
+  file_of_type words set type_name name old new schema fault is_cat reads gives refused =
+      before_frames words set type_name name old new None (Some fault) is_cat reads (early fault refused) (past fault refused) (λ is. absurd (other fault refused is)) (λ is. absurd (cc)) (λ _ is. cc)
+      (given_weaker (set_given (contents_of old) set) schema (λ answer. EndsBySet answer type_name (Some fault)) (type_refused schema fault type_name refused) gives)
+    where
+      early : (f : Fault) → (f ≡ NoMemory) ⊎ ((f ≡ NoType type_name) × HasNoType schema type_name) → first_stage (Some f) ≤ at_types
+      early f (inl is) = subst (λ g. first_stage (Some g) ≤ at_types) (sym is) (omega arith)
+      early f (inr is) = subst (λ g. first_stage (Some g) ≤ at_types) (sym is.0) (omega arith)
+
+      past : (f : Fault) → (f ≡ NoMemory) ⊎ ((f ≡ NoType type_name) × HasNoType schema type_name) → at_words < last_stage (Some f)
+      past f (inl is) = subst (λ g. at_words < last_stage (Some g)) (sym is) (omega arith)
+      past f (inr is) = subst (λ g. at_words < last_stage (Some g)) (sym is.0) (omega arith)
+
+      other : (f : Fault) → (f ≡ NoMemory) ⊎ ((f ≡ NoType type_name) × HasNoType schema type_name) → Some f ≡ Some ReadFault → ⊥
+      other f (inl is) e = cc
+      other f (inr is) e = let same = is.0 in cc
 
   -- a run past the type, over the file that the words name
-  pub file_of_frames : (words : List (List ℕ)) (type_name name : List ℕ) (type_no : ℕ) (old new : S) (end : Option Fault) → IsCat words type_name name → IsTypeOf type_name type_no → EndsByFrames contents_of faults_of blamed_of type_no name old new end
-      → EndsByFile contents_of faults_of blamed_of words old new end
-  file_of_frames words type_name name type_no old new end is_cat is_type by =
+  pub file_of_frames : (words : List (List ℕ)) (set type_name name : List ℕ) (type_no : ℕ) (old mid new : S) (schema : Schema) (end : Option Fault) → IsCat words set type_name name → ReadsSet contents_of faults_of blamed_of set old mid None
+      → IfSome (set_given (contents_of old) set) (λ answer. answer ≡ Ok schema) → IsTypeOf schema type_name type_no → EndsByFrames contents_of faults_of blamed_of schema type_no name mid new end → EndsByFile contents_of faults_of blamed_of words old new end
+  file_of_frames words set type_name name type_no old mid new schema end is_cat set_reads gives is_type by =
       let reads = by.reads in
       let past = by.past in
+      let same_contents : contents_of mid ≡ contents_of old = set_contents set old mid None set_reads in
+      let set_counts : faults_of old ≤ faults_of mid = either_set set _ (λ built. let same = ap faults_of (set_reads.built_in built).0 in omega (arith, same)) (λ other. (set_reads.in_file other).counts) in
+      let set_blamed : blamed_of mid ≡ blamed_of old = either_set set _ (λ built. ap blamed_of (set_reads.built_in built).0) (λ other. (set_reads.in_file other).unblamed (λ is. cc)) in
+      let counts = reads.counts in
       record {
-        contents = reads.contents;
-        counts = reads.counts;
-        untouched = λ unread. absurd (omega (arith, past, unread));
-        read_fault = reads.read_fault;
-        blamed = λ is. (type_name, name, is_cat, reads.blamed is);
-        unblamed = reads.unblamed;
-        there = λ other_type frames other read. subst (IsThere (contents_of old)) (same_frames words type_name other_type name frames is_cat other) (reads.there read);
-        first = of_named words (contents_of old) type_name name type_no (λ n content. EndsBy (first_fault n content) end) is_cat is_type by.first;
+        contents = reads.contents ∙ same_contents;
+        counts = omega (arith, counts, set_counts);
+        untouched = λ of_words. absurd (omega (arith, past, of_words));
+        untouched_types = λ _ _ _ _ _ unread. absurd (omega (arith, past, unread));
+        read_fault = λ is. let rose = reads.read_fault is in omega (arith, rose, set_counts);
+        blamed = λ is. (set, type_name, name, is_cat, inr (given_weaker (set_given (contents_of old) set) schema (λ answer. (s : Schema) × (n : ℕ) × (answer ≡ Ok s) × IsTypeOf s type_name n) (schema, type_no, refl, is_type) gives, reads.blamed is));
+        unblamed = λ not. reads.unblamed not ∙ set_blamed;
+        set_there = λ a_set other_type frames other_cat other _.
+            let same = same_set words set a_set type_name other_type name frames is_cat other_cat in
+            subst (IsThere (contents_of old)) same ((set_reads.in_file (subst (λ s. is_built_in s ≡ false) (sym same) other)).there (λ is. cc) (λ is. cc));
+        there = λ other other_type frames other_cat was_read.
+            let behind : at_set_reading < first_stage end = omega (arith, was_read) in
+            subst (IsThere (contents_of old)) (same_frames words set other type_name other_type name frames is_cat other_cat) (subst (λ c. IsThere c name) same_contents (reads.there (not_failed end behind) (not_wanting end behind)));
+        set = λ other other_type frames other_cat.
+            subst (λ s. IfSome (set_given (contents_of old) s) (λ answer. EndsBySet answer other_type end)) (same_set words set other type_name other_type name frames is_cat other_cat)
+            (subst (λ t. IfSome (set_given (contents_of old) set) (λ answer. EndsBySet answer t end)) (same_type words set other type_name other_type name frames is_cat other_cat)
+            (given_weaker (set_given (contents_of old) set) schema (λ answer. EndsBySet answer type_name end) (type_found schema end type_name type_no is_type past) gives));
+        first = of_named words (contents_of old) schema set type_name name type_no (λ s n content. EndsBy (first_fault s n content) end) is_cat (is_given words (contents_of old) schema set type_name name is_cat gives) is_type
+            (subst (λ c. IfSome (content_of c name) (λ content. EndsBy (first_fault schema type_no content) end)) same_contents by.first);
       }
 
   -- where writing fails that would have ended well
@@ -258,13 +426,18 @@ module _ {S : Type 0} (contents_of : S → Option NamedFiles) (faults_of : S →
   file_of_write words old new well = record {
     contents = well.contents;
     counts = well.counts;
-    untouched = λ unread. absurd (omega (arith, unread));
+    untouched = λ of_words. absurd (omega (arith, of_words));
+    untouched_types = λ _ _ _ _ _ unread. absurd (omega (arith, unread));
     read_fault = λ is. cc;
     blamed = λ is. cc;
     unblamed = λ _. well.unblamed (λ is. cc);
-    there = λ type_name frames is_cat _. well.there type_name frames is_cat (omega arith);
-    first = λ type_name frames content type_no is_cat is_type found.
-        let by = well.first type_name frames content type_no is_cat is_type found in
+    set_there = λ set type_name frames is_cat other _. well.set_there set type_name frames is_cat other (omega arith);
+    there = λ set type_name frames is_cat _. well.there set type_name frames is_cat (omega arith);
+    set = λ set type_name frames is_cat. given_maps (set_given (contents_of old) set) _ _
+        (λ answer by. record { fault = λ _ untyped. absurd (omega (arith, untyped)); no_type = λ name is. cc; type = λ _. by.type (omega arith) })
+        (well.set set type_name frames is_cat);
+    first = λ set type_name frames content schema type_no is_cat told is_type found.
+        let by = well.first set type_name frames content schema type_no is_cat told is_type found in
         record { fault = λ _ unparsed. absurd (omega (arith, unparsed)); none = λ _. by.none (omega arith) };
   }
 
@@ -290,7 +463,7 @@ module _ {S K : Type 0} (key_of : S → K) (places_of : S → Places) (buffers_o
   pub grows_none : (words : List (List ℕ)) (files : Option NamedFiles) (end : Option Fault) (now : S) → GrowsByFile key_of places_of buffers_of blocks_of words files end now now
   grows_none words files end now = record {
     unplaced = λ _. refl;
-    told = of_none words files (λ type_no content. IfOk (frames_of content) (λ payloads. Grows key_of places_of buffers_of blocks_of (most_made payloads) (most_made payloads) now now)) (λ type_no content. same_told (Some content) now);
+    told = of_none words files (λ schema type_no content. IfOk (frames_of content) (λ payloads. Grows key_of places_of buffers_of blocks_of (most_made payloads) (most_made payloads) now now)) (λ schema type_no content. same_told (Some content) now);
     grows = same_grows key_of places_of buffers_of blocks_of (4 * 2 ^ 24) (4 * 2 ^ 24) now now refl;
   }
 
@@ -304,7 +477,7 @@ module _ {S K : Type 0} (key_of : S → K) (places_of : S → Places) (buffers_o
     grows = growth_widens key_of places_of buffers_of blocks_of (most_made payloads) (4 * 2 ^ 24) (most_made payloads) (4 * 2 ^ 24) old new grows (omega (arith, fits)) (omega (arith, fits));
   }
     where
-      late : (r : Result A Fault) → IfErr r IsOfPayloads → last_stage (result_fault r) < 4 → ⊥
+      late : (r : Result A Fault) → IfErr r IsOfPayloads → last_stage (result_fault r) < at_payloads → ⊥
       late (Ok x) kind before = omega (arith, before)
       late (Err fault) kind before = omega (arith, kind, before)
 
@@ -314,15 +487,15 @@ module _ {S K : Type 0} (key_of : S → K) (places_of : S → Places) (buffers_o
       some_told (Some content) h = subst (λ (r : Result (List (List ℕ)) ℕ). IfOk r (λ those. Grows key_of places_of buffers_of blocks_of (most_made those) (most_made those) old new)) (sym h.1) grows
 
   -- of the file that the words name
-  pub grows_of_frames : (words : List (List ℕ)) (files : Option NamedFiles) (type_name name : List ℕ) (type_no : ℕ) (end : Option Fault) (old new : S) → IsCat words type_name name → IsTypeOf type_name type_no
+  pub grows_of_frames : (words : List (List ℕ)) (files : Option NamedFiles) (types : Schema) (set type_name name : List ℕ) (type_no : ℕ) (end : Option Fault) (old new : S) → IsCat words set type_name name → IsGiven words files types → IsTypeOf types type_name type_no
       → GrowsByFrames key_of places_of buffers_of blocks_of (content_of files name) end old new → GrowsByFile key_of places_of buffers_of blocks_of words files end old new
-  grows_of_frames words files type_name name type_no end old new is_cat is_type g = record {
+  grows_of_frames words files types set type_name name type_no end old new is_cat given is_type g = record {
     unplaced = g.unplaced;
-    told = of_named words files type_name name type_no (λ _ content. IfOk (frames_of content) (λ payloads. Grows key_of places_of buffers_of blocks_of (most_made payloads) (most_made payloads) old new)) is_cat is_type g.told;
+    told = of_named words files types set type_name name type_no (λ _ _ content. IfOk (frames_of content) (λ payloads. Grows key_of places_of buffers_of blocks_of (most_made payloads) (most_made payloads) old new)) is_cat given is_type g.told;
     grows = g.grows;
   }
 
-  pub grows_on : (words : List (List ℕ)) (files : Option NamedFiles) (end : Option Fault) (old new : S) → GrowsByFile key_of places_of buffers_of blocks_of words files None old new → 4 ≤ last_stage end → GrowsByFile key_of places_of buffers_of blocks_of words files end old new
+  pub grows_on : (words : List (List ℕ)) (files : Option NamedFiles) (end : Option Fault) (old new : S) → GrowsByFile key_of places_of buffers_of blocks_of words files None old new → at_payloads ≤ last_stage end → GrowsByFile key_of places_of buffers_of blocks_of words files end old new
   grows_on words files end old new was past = record { unplaced = λ before. absurd (omega (arith, past, before)); told = was.told; grows = was.grows }
 
   -- a memory in which there was nothing
@@ -330,6 +503,6 @@ module _ {S K : Type 0} (key_of : S → K) (places_of : S → Places) (buffers_o
   few_there most old new no_places no_buffers grows = record { few_places = omega (arith, grows.few_places, no_places); few_buffers = omega (arith, grows.few_buffers, no_buffers) }
 
   pub few_told : (words : List (List ℕ)) (files : Option NamedFiles) (end : Option Fault) (old new : S) → map.len (places_of old) ≡ 0 → map.len (buffers_of old) ≡ 0 → GrowsByFile key_of places_of buffers_of blocks_of words files end old new
-      → OfContent words files (λ type_no content. IfOk (frames_of content) (λ payloads. AreFew (most_made payloads) (places_of new) (buffers_of new)))
-  few_told words files end old new no_places no_buffers grows = λ type_name frames content type_no is_cat is_type found.
-      IfOk-weaker (frames_of content) _ (λ payloads. AreFew (most_made payloads) (places_of new) (buffers_of new)) (λ payloads. few_there (most_made payloads) old new no_places no_buffers) (grows.told type_name frames content type_no is_cat is_type found)
+      → OfContent words files (λ schema type_no content. IfOk (frames_of content) (λ payloads. AreFew (most_made payloads) (places_of new) (buffers_of new)))
+  few_told words files end old new no_places no_buffers grows = λ set type_name frames content schema type_no is_cat told is_type found.
+      IfOk-weaker (frames_of content) _ (λ payloads. AreFew (most_made payloads) (places_of new) (buffers_of new)) (λ payloads. few_there (most_made payloads) old new no_places no_buffers) (grows.told set type_name frames content schema type_no is_cat told is_type found)

@@ -1,6 +1,7 @@
 pub mod Numbers
 pub mod WordForms
 pub mod Firsts
+pub mod SetLaws
 pub mod CauseLaws
 pub mod AllStand
 pub mod Parsing
@@ -8,3 +9,4 @@ pub mod FramesFit
 pub mod Making
 pub mod Written
 pub mod Counted
+pub mod Told

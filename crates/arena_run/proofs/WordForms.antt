@@ -4,15 +4,13 @@ use Rattle.std.specs.Prelude.{codes, IfNone}
 use Rattle.std.specs.Str.{bytes_eq}
 use Rattle.std.proofs.lemmas.Slice.Eq.{bytes_eq-Decides}
 use Rattle.pb_schema.specs.declared.schema.Schema.{Schema}
-use Rattle.pb_schema.specs.Builtin.{builtin}
-use Rattle.pb_schema.specs.Names.{NoneBelow}
 use Rattle.arena_run.specs.declared.command.Command.{Command}
 use Rattle.arena_run.specs.declared.command.Command.TheVariants.{Cat, Run, Gen}
 use Rattle.arena_run.specs.declared.fault.Fault.{Fault}
 use Rattle.arena_run.specs.declared.fault.Fault.TheVariants.{NoMemory, Usage, NotBuilt, NoType, WriteFault}
 use Rattle.arena_run.specs.Causes.{EndsByWords}
-use Rattle.arena_run.specs.Ends.{IsOfWords, IsPastWords, IsPastTypes}
-use Rattle.arena_run.specs.Words.{number_in, Spells, IsNumber, IsWorkers, HasForm, HasNoForm, IsReadFrom, IsCat, IsOtherCommand, IsTypeOf, HasNoType}
+use Rattle.arena_run.specs.Ends.{first_stage, last_stage, at_set, at_types, IsOfSet, IsOfWords, IsPastWords}
+use Rattle.arena_run.specs.Words.{number_in, Spells, IsNumber, IsWorkers, HasForm, HasNoForm, IsReadFrom, IsCat, IsOtherCommand, HasNoType}
 
 pub same_bytes : (xs ys zs : List ℕ) → xs ≡ ys → bytes_eq xs zs ≡ true → ys ≡ zs
 same_bytes xs ys zs e test = sym e ∙ (bytes_eq-Decides xs zs).0 test
@@ -55,12 +53,15 @@ read_form words (Run set type_name frames script workers) read =
 read_form words (Gen seed count workers) read =
     inr (inr (record { seed = read.0; frames = read.1; workers = read.2; are = read.3; seed_below = (seed, read.4); frames_below = (count, read.5); count = (workers, read.6) }))
 
--- the words name one type and one frames file
-pub same_type : (words : List (List ℕ)) (t u a b : List ℕ) → IsCat words t a → IsCat words u b → t ≡ u
-same_type words t u a b p q = let first = p.are in let second = q.are in cc
+-- the words name one set, one type and one frames file
+pub same_set : (words : List (List ℕ)) (r s t u a b : List ℕ) → IsCat words r t a → IsCat words s u b → r ≡ s
+same_set words r s t u a b p q = let first = p.are in let second = q.are in cc
 
-pub same_frames : (words : List (List ℕ)) (t u a b : List ℕ) → IsCat words t a → IsCat words u b → a ≡ b
-same_frames words t u a b p q = let first = p.are in let second = q.are in cc
+pub same_type : (words : List (List ℕ)) (r s t u a b : List ℕ) → IsCat words r t a → IsCat words s u b → t ≡ u
+same_type words r s t u a b p q = let first = p.are in let second = q.are in cc
+
+pub same_frames : (words : List (List ℕ)) (r s t u a b : List ℕ) → IsCat words r t a → IsCat words s u b → a ≡ b
+same_frames words r s t u a b p q = let first = p.are in let second = q.are in cc
 
 pub if_none : {A : Type 0} (o : Option A) (P : Type 0) → P → IfNone o P
 if_none None P p = p
@@ -85,31 +86,31 @@ one_is workers spelled word spells same one =
     let is : one.0 ≡ workers = cc in
     omega (arith, is, one.1.low, one.1.high)
 
--- the words of `cat` over the built types with one worker
+-- the words of `cat` with one worker
 pub is_cat : (words : List (List ℕ)) (set type_name frames : List ℕ) (workers : ℕ) → (spelled : List ℕ) × (words ≡ codes "cat" ∷ set ∷ type_name ∷ frames ∷ spelled ∷ []) × Spells 2 1 64 spelled workers
-    → (set ≡ codes "builtin") × (workers ≡ 1) → IsCat words type_name frames
-is_cat words set type_name frames workers read built =
+    → workers ≡ 1 → IsCat words set type_name frames
+is_cat words set type_name frames workers read one =
     let spells = read.2 in
-    record { workers = read.0; are = (let are = read.1 in let first = built.0 in cc); one = (workers, record { some = spells.some; few = spells.few; value = spells.value; low = spells.low; high = omega (arith, built.1) }) }
+    record { workers = read.0; are = read.1; one = (workers, record { some = spells.some; few = spells.few; value = spells.value; low = spells.low; high = omega (arith, one) }) }
 
 pub other_cat : (words : List (List ℕ)) (set type_name frames : List ℕ) (workers : ℕ) → (spelled : List ℕ) × (words ≡ codes "cat" ∷ set ∷ type_name ∷ frames ∷ spelled ∷ []) × Spells 2 1 64 spelled workers
-    → ((set ≡ codes "builtin") × (workers ≡ 1) → ⊥) → IsOtherCommand words
-other_cat words set type_name frames workers read refuted type named is =
+    → (workers ≡ 1 → ⊥) → IsOtherCommand words
+other_cat words set type_name frames workers read refuted a_set type named is =
     let are = read.1 in
     let other = is.are in
     let same : is.workers ≡ read.0 = cc in
-    refuted (cc, one_is workers read.0 is.workers read.2 same is.one)
+    refuted (one_is workers read.0 is.workers read.2 same is.one)
 
 pub other_run : (words : List (List ℕ)) (set type_name frames script workers : List ℕ) → words ≡ codes "run" ∷ set ∷ type_name ∷ frames ∷ script ∷ workers ∷ [] → IsOtherCommand words
-other_run words set type_name frames script workers are type named is = let other = is.are in cc
+other_run words set type_name frames script workers are a_set type named is = let other = is.are in cc
 
 pub other_gen : (words : List (List ℕ)) (seed count workers : List ℕ) → words ≡ codes "gen" ∷ seed ∷ count ∷ workers ∷ [] → IsOtherCommand words
-other_gen words seed count workers are type named is = let other = is.are in cc
+other_gen words seed count workers are a_set type named is = let other = is.are in cc
 
-cat_is_form : (words : List (List ℕ)) (type_name frames : List ℕ) → IsCat words type_name frames → HasForm words
-cat_is_form words type_name frames is =
+cat_is_form : (words : List (List ℕ)) (set type_name frames : List ℕ) → IsCat words set type_name frames → HasForm words
+cat_is_form words set type_name frames is =
     let one = is.one.1 in
-    inl (record { set = codes "builtin"; type_name = type_name; frames = frames; workers = is.workers; are = is.are; count = (is.one.0, record { some = one.some; few = one.few; value = one.value; low = one.low; high = omega (arith, one.high) }) })
+    inl (record { set = set; type_name = type_name; frames = frames; workers = is.workers; are = is.are; count = (is.one.0, record { some = one.some; few = one.few; value = one.value; low = one.low; high = omega (arith, one.high) }) })
 
 -- WHAT FOLLOWS FROM THE WORDS
 
@@ -117,46 +118,52 @@ pub words_none : (words : List (List ℕ)) → HasNoForm words → EndsByWords w
 words_none words none = record {
   usage = (λ _. none, λ _. refl);
   not_built = (λ is. cc, λ unbuilt. absurd (none unbuilt.0));
-  command = (λ past. absurd (omega (arith, past)), λ cat. absurd (none (cat_is_form words cat.0 cat.1 cat.2)));
+  command = (λ past. absurd (omega (arith, past)), λ cat. absurd (none (cat_is_form words cat.0 cat.1 cat.2 cat.3)));
   no_type = λ name is. absurd (cc);
-  type = λ type_name frames is past. absurd (omega (arith, past));
 }
 
 pub words_other : (words : List (List ℕ)) → HasForm words → IsOtherCommand words → EndsByWords words (Some NotBuilt)
 words_other words form other = record {
   usage = (λ is. cc, λ none. absurd (none form));
   not_built = (λ _. (form, other), λ _. refl);
-  command = (λ past. absurd (omega (arith, past)), λ cat. absurd (other cat.0 cat.1 cat.2));
+  command = (λ past. absurd (omega (arith, past)), λ cat. absurd (other cat.0 cat.1 cat.2 cat.3));
   no_type = λ name is. absurd (cc);
-  type = λ type_name frames is past. absurd (omega (arith, past));
 }
 
--- past the words, which name a type and a frames file
-pub words_past : (words : List (List ℕ)) (type_name frames : List ℕ) (end : Option Fault) → IsCat words type_name frames → IsPastWords end
-    → ((name : List ℕ) → end ≡ Some (NoType name) → (name ≡ type_name) × HasNoType name) → (IsPastTypes end → (type_no : ℕ) × IsTypeOf type_name type_no) → EndsByWords words end
-words_past words type_name frames end is past none there = record {
-  usage = (λ ends. absurd (not_of_words Usage ends (omega arith)), λ no_form. absurd (no_form (cat_is_form words type_name frames is)));
-  not_built = (λ ends. absurd (not_of_words NotBuilt ends (omega arith)), λ unbuilt. absurd (unbuilt.1 type_name frames is));
-  command = (λ _. (type_name, frames, is), λ _. past);
-  no_type = λ name ends. let told = none name ends in (frames, subst (λ n. IsCat words n frames) (sym told.0) is, told.1);
-  type = λ other more cat beyond. let found = there beyond in (found.0, subst (λ n. IsTypeOf n found.0) (same_type words type_name other frames more is cat) found.1);
+-- past the words, which name a set, a type and a frames file
+pub words_past : (words : List (List ℕ)) (set type_name frames : List ℕ) (end : Option Fault) → IsCat words set type_name frames → IsPastWords end
+    → ((name : List ℕ) → end ≡ Some (NoType name) → name ≡ type_name) → EndsByWords words end
+words_past words set type_name frames end is past none = record {
+  usage = (λ ends. absurd (not_of_words Usage ends (omega arith)), λ no_form. absurd (no_form (cat_is_form words set type_name frames is)));
+  not_built = (λ ends. absurd (not_of_words NotBuilt ends (omega arith)), λ unbuilt. absurd (unbuilt.1 set type_name frames is));
+  command = (λ _. (set, type_name, frames, is), λ _. past);
+  no_type = λ name ends. (set, frames, subst (λ n. IsCat words set n frames) (sym (none name ends)) is);
 }
   where
     not_of_words : (fault : Fault) → end ≡ Some fault → IsOfWords (Some fault) → ⊥
     not_of_words fault ends of_words = let told : IsPastWords (Some fault) = subst IsPastWords ends past in omega (arith, told, of_words)
 
+-- the set wasn't taken
+pub words_unset : (words : List (List ℕ)) (set type_name frames : List ℕ) (fault : Fault) → IsCat words set type_name frames → IsOfSet fault → EndsByWords words (Some fault)
+words_unset words set type_name frames fault is kind =
+    let past = kind.past in
+    let before = kind.before in
+    words_past words set type_name frames (Some fault) is past (λ name e. absurd (let told : first_stage (Some (NoType name)) ≤ at_set = subst (λ o. first_stage o ≤ at_set) e before in omega (arith, told)))
+
 -- the type wasn't found, or there was no memory to name it
-pub words_untyped : (words : List (List ℕ)) (type_name frames : List ℕ) (schema : Schema) (fault : Fault) → IsCat words type_name frames → schema ≡ builtin
-    → (fault ≡ NoMemory) ⊎ ((fault ≡ NoType type_name) × NoneBelow schema type_name (2 ^ 32)) → EndsByWords words (Some fault)
-words_untyped words type_name frames schema fault is_cat is (inl same) =
-    subst (λ f. EndsByWords words (Some f)) (sym same) (words_past words type_name frames (Some NoMemory) is_cat (omega arith) (λ name e. absurd (cc)) (λ past. absurd (omega (arith, past))))
-words_untyped words type_name frames schema fault is_cat is (inr none) =
-    subst (λ f. EndsByWords words (Some f)) (sym none.0) (words_past words type_name frames (Some (NoType type_name)) is_cat (omega arith)
-    (λ name e. let same : name ≡ type_name = cc in (same, subst HasNoType (sym same) (subst (λ s. NoneBelow s type_name (2 ^ 32)) is none.1)))
-    (λ past. absurd (omega (arith, past))))
+pub words_untyped : (words : List (List ℕ)) (set type_name frames : List ℕ) (schema : Schema) (fault : Fault) → IsCat words set type_name frames → (fault ≡ NoMemory) ⊎ ((fault ≡ NoType type_name) × HasNoType schema type_name) → EndsByWords words (Some fault)
+words_untyped words set type_name frames schema fault is_cat (inl same) =
+    subst (λ f. EndsByWords words (Some f)) (sym same) (words_past words set type_name frames (Some NoMemory) is_cat (omega arith) (λ name e. absurd (cc)))
+words_untyped words set type_name frames schema fault is_cat (inr none) =
+    subst (λ f. EndsByWords words (Some f)) (sym none.0) (words_past words set type_name frames (Some (NoType type_name)) is_cat (omega arith) (λ name e. cc))
+
+-- the frames file was read, or tried
+pub words_typed : (words : List (List ℕ)) (set type_name frames : List ℕ) (end : Option Fault) → IsCat words set type_name frames → at_types < last_stage end → EndsByWords words end
+words_typed words set type_name frames end is past =
+    words_past words set type_name frames end is (omega (arith, past)) (λ name e. absurd (let told : at_types < last_stage (Some (NoType name)) = subst (λ o. at_types < last_stage o) e past in omega (arith, told)))
 
 -- where writing fails that would have ended well
 pub words_written : (words : List (List ℕ)) → EndsByWords words None → EndsByWords words (Some WriteFault)
 words_written words by =
     let cat = by.command.0 (omega arith) in
-    words_past words cat.0 cat.1 (Some WriteFault) cat.2 (omega arith) (λ name e. absurd (cc)) (λ past. by.type cat.0 cat.1 cat.2 (omega arith))
+    words_past words cat.0 cat.1 cat.2 (Some WriteFault) cat.3 (omega arith) (λ name e. absurd (cc))

@@ -3,7 +3,7 @@ use Rattle.std.specs.Prelude.{◌≡◌, ◌*◌, ◌^◌, ◌<◌, ℕ, List, O
 use Rattle.arena_mem.specs.Grows.{Grows}
 use Rattle.arena_mem.specs.Outside.{NamedFiles, content_of}
 use Rattle.arena_mem.specs.Places.{Places, Buffers}
-use Rattle.pb_schema.specs.Builtin.{builtin}
+use Rattle.pb_schema.specs.declared.schema.Schema.{Schema}
 use Rattle.pb_schema.specs.Frames.{frames_of}
 use Rattle.pb_schema.specs.Tree.{Tree}
 use Rattle.dyn_message.specs.declared.msg_ref.MsgRef.{MsgRef}
@@ -15,9 +15,9 @@ use Rattle.arena_run.specs.Faults.{first_fault}
 use Rattle.arena_run.specs.Stands.{StandShort}
 
 -- the file of that name was read, or it was tried, and the end is that of what it holds at this type
-pub record EndsByFrames {S : Type 0} (contents_of : S → Option NamedFiles) (faults_of : S → ℕ) (blamed_of : S → Option (List ℕ)) (type_no : ℕ) (name : List ℕ) (old new : S) (end : Option Fault) : Type 0 where
+pub record EndsByFrames {S : Type 0} (contents_of : S → Option NamedFiles) (faults_of : S → ℕ) (blamed_of : S → Option (List ℕ)) (schema : Schema) (type_no : ℕ) (name : List ℕ) (old new : S) (end : Option Fault) : Type 0 where
   pub reads : ReadsFile contents_of faults_of blamed_of name old new end
-  pub first : IfSome (content_of (contents_of old) name) (λ content. EndsBy (first_fault type_no content) end)
+  pub first : IfSome (content_of (contents_of old) name) (λ content. EndsBy (first_fault schema type_no content) end)
   -- it isn't one of the words or of the type, nor one of writing
   pub past : at_types < last_stage end
   pub before : (fault : Fault) → end ≡ Some fault → last_stage end < at_writing
@@ -29,7 +29,7 @@ pub record GrowsByFrames {S K : Type 0} (key_of : S → K) (places_of : S → Pl
   pub grows : Grows key_of places_of buffers_of blocks_of (4 * 2 ^ 24) (4 * 2 ^ 24) old new
 
 -- the messages stand for trees of this type, and for those of what the file holds where that is told
-pub record StandsRead (places : Places) (buffers : Buffers) (found : Option (List ℕ)) (type_no : ℕ) (messages : List MsgRef) : Type 0 where
+pub record StandsRead (schema : Schema) (places : Places) (buffers : Buffers) (found : Option (List ℕ)) (type_no : ℕ) (messages : List MsgRef) : Type 0 where
   pub trees : List Tree
-  pub stand : StandShort builtin places buffers type_no messages trees
-  pub told : IfSome found (λ content. HasTrees type_no content (λ those. StandShort builtin places buffers type_no messages those))
+  pub stand : StandShort schema places buffers type_no messages trees
+  pub told : IfSome found (λ content. HasTrees schema type_no content (λ those. StandShort schema places buffers type_no messages those))

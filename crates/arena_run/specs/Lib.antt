@@ -1,4 +1,5 @@
 pub mod Words
+pub mod Sets
 pub mod Faults
 pub mod Contents
 pub mod Stands
@@ -6,3 +7,4 @@ pub mod Made
 pub mod Frames
 pub mod Ends
 pub mod Causes
+pub mod FaultTexts

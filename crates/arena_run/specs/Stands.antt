@@ -2,9 +2,10 @@
 use Rattle.std.specs.Prelude.{◌≡◌, ◌<◌, ◌^◌, ℕ, List, [], ◌∷◌, length, Option, None, Some}
 use Rattle.std.specs.List.{AllByRecursion}
 use Rattle.std.specs.Io.KnownBytes.{Appends}
-use Rattle.arena_mem.specs.Outside.{TookPart}
+use Rattle.arena_mem.specs.Outside.{NamedFiles, TookPart}
 use Rattle.arena_mem.specs.Places.{Places, Buffers}
 use Rattle.pb_schema.specs.declared.schema.Schema.{Schema}
+use Rattle.pb_schema.specs.Lawful.{Lawful}
 use Rattle.pb_schema.specs.Payloads.{framed_texts}
 use Rattle.pb_schema.specs.Text.{text_of}
 use Rattle.pb_schema.specs.Tree.{Tree}
@@ -13,6 +14,7 @@ use Rattle.dyn_message.specs.Feet.{Foot, Once, Split}
 use Rattle.dyn_message.specs.Stands.{StandsFor}
 use Rattle.arena_run.specs.declared.fault.Fault.{Fault}
 use Rattle.arena_run.specs.declared.fault.Fault.TheVariants.{WriteFault}
+use Rattle.arena_run.specs.Sets.{IsGiven}
 
 -- messages of a type, each for its tree, in order; the feet are those of all of them
 abbrev pub AllStand : Schema → Places → Buffers → ℕ → List MsgRef → List Tree → List Foot → Type 0
@@ -36,9 +38,12 @@ pub record StandShort (schema : Schema) (places : Places) (buffers : Buffers) (t
   pub apart : StandApart schema places buffers type_no messages trees
   pub short : AllByRecursion (λ tree. length (text_of schema type_no tree) < 2 ^ 62) trees
 
--- the messages stand for trees of one type, and what a sink took is their text: all of it where the run ended well, and a front that isn't
--- all where the sink failed
-pub record StandWritten (schema : Schema) (places : Places) (buffers : Buffers) (messages : List MsgRef) (end : Option Fault) (was now : Option (List ℕ)) : Type 0 where
+-- the messages stand for trees of one type of a lawful schema, which is the one that the set gives where that is told, and what a sink took is
+-- their text: all of it where the run ended well, and a front that isn't all where the sink failed
+pub record StandWritten (words : List (List ℕ)) (files : Option NamedFiles) (places : Places) (buffers : Buffers) (messages : List MsgRef) (end : Option Fault) (was now : Option (List ℕ)) : Type 0 where
+  pub schema : Schema
+  pub lawful : Lawful schema
+  pub given : IsGiven words files schema
   pub type_no : ℕ
   pub trees : List Tree
   pub stand : StandApart schema places buffers type_no messages trees

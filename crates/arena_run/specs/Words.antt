@@ -1,7 +1,7 @@
 -- The words that the program is called with, without its own name.
-use Rattle.std.specs.Prelude.{◌≡◌, ◌⊎◌, ◌+◌, ◌-◌, ◌*◌, ◌^◌, ◌≤◌, ℕ, Bool, ◌&&◌, nat_le, List, [], ◌∷◌, length, Option, None, Some, codes, if◌then◌else◌}
+use Rattle.std.specs.Prelude.{◌≡◌, ◌⊎◌, ◌+◌, ◌-◌, ◌*◌, ◌^◌, ◌<◌, ◌≤◌, ℕ, Bool, ◌&&◌, nat_le, List, [], ◌∷◌, length, Option, None, Some, codes, if◌then◌else◌}
 use Rattle.std.specs.Option.{option_map}
-use Rattle.pb_schema.specs.Builtin.{builtin}
+use Rattle.pb_schema.specs.declared.schema.Schema.{Schema}
 use Rattle.pb_schema.specs.Names.{HasName, NoneBelow}
 use Rattle.arena_run.specs.declared.command.Command.{Command}
 use Rattle.arena_run.specs.declared.command.Command.TheVariants.{Cat, Run, Gen}
@@ -79,15 +79,15 @@ IsReadFrom words (Gen seed count workers) =
 
 -- WHAT IS BUILT
 
--- the words of the command that is built, with these names of a type and of a frames file
-pub record IsCat (words : List (List ℕ)) (type_name frames : List ℕ) : Type 0 where
+-- the words of the command that is built, with these names of a set, of a type and of a frames file
+pub record IsCat (words : List (List ℕ)) (set type_name frames : List ℕ) : Type 0 where
   pub workers : List ℕ
-  pub are : words ≡ codes "cat" ∷ codes "builtin" ∷ type_name ∷ frames ∷ workers ∷ []
+  pub are : words ≡ codes "cat" ∷ set ∷ type_name ∷ frames ∷ workers ∷ []
   pub one : IsNumber 2 1 1 workers
 
 -- the words are those of no command that is built
 abbrev pub IsOtherCommand : List (List ℕ) → Type 0
-IsOtherCommand words = (type_name frames : List ℕ) → IsCat words type_name frames → ⊥
+IsOtherCommand words = (set type_name frames : List ℕ) → IsCat words set type_name frames → ⊥
 
 -- they have a form, and are those of no command that is built
 abbrev pub IsUnbuilt : List (List ℕ) → Type 0
@@ -96,9 +96,11 @@ IsUnbuilt words = HasForm words × IsOtherCommand words
 -- TYPES
 
 -- no type of the schema has this full name
-abbrev pub HasNoType : List ℕ → Type 0
-HasNoType type_name = NoneBelow builtin type_name (2 ^ 32)
+abbrev pub HasNoType : Schema → List ℕ → Type 0
+HasNoType schema type_name = NoneBelow schema type_name (2 ^ 32)
 
--- the type with this number has it, and none before that
-abbrev pub IsTypeOf : List ℕ → ℕ → Type 0
-IsTypeOf type_name type_no = HasName builtin type_name type_no × NoneBelow builtin type_name type_no
+-- the type with this number has it, and none before that; numbers of types are below 2^32
+pub record IsTypeOf (schema : Schema) (type_name : List ℕ) (type_no : ℕ) : Type 0 where
+  pub named : HasName schema type_name type_no
+  pub first : NoneBelow schema type_name type_no
+  pub fits : type_no < 2 ^ 32

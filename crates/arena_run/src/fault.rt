@@ -1,12 +1,15 @@
 // The faults of a run, and their statuses.
 ghost use Rattle.std.specs.Prelude.{◌≡◌};
 
+use desc_pool::SchemaFault;
 use pb_schema::Name;
 use pb_wire::WireFault;
 
 /// An input that has a limit.
 #[derive(Clone, Copy, Debug, PartialEq, Eq)]
 pub enum InputKind {
+    /// The bytes of the descriptor set, of which there may be 2^22.
+    SetBytes,
     /// The bytes of the frames file, of which there may be 2^24.
     FrameBytes,
     /// Its frames, of which there may be 2^20.
@@ -20,13 +23,15 @@ pub enum Fault {
     NoMemory,
     /// The words have none of the three forms. Status 2.
     Usage,
+    /// The descriptor set isn't taken, for this. Status 3.
+    Schema(SchemaFault),
     /// No type has the name that the words have. Status 3.
     NoType { name: Name },
     /// So many frames of the file are whole, and behind them none can be read. Status 4.
     FrameCut { index: u32 },
     /// The frame of this index is the first whose payload has a fault, and this is its first. Status 4.
     BadFrame { index: u32, fault: WireFault },
-    /// The frames file failed. Status 6.
+    /// A file failed: the descriptor set, or the frames. Status 6.
     ReadFault,
     /// The output failed. Status 7.
     WriteFault,
@@ -47,7 +52,7 @@ impl Fault {
         match self {
             Fault::NoMemory => 1,
             Fault::Usage => 2,
-            Fault::NoType { .. } => 3,
+            Fault::Schema(_) | Fault::NoType { .. } => 3,
             Fault::FrameCut { .. } | Fault::BadFrame { .. } => 4,
             Fault::ReadFault => 6,
             Fault::WriteFault => 7,

@@ -1,10 +1,11 @@
-// Reading a whole file through `Files`, and cutting it into frames.
+// Reading a whole file through `Files`, and cutting a file into frames.
 ghost use Rattle.std.specs.Prelude.{◌≡◌, ◌⊎◌, [], ◌+◌, ◌^◌, ◌<◌, ◌≤◌, ℕ, List, Some, Ok, length, sum_by, IsTrue, IfOk, IfErr, IfSome, IsErrOf};
 ghost use Rattle.std.specs.String.{string_bytes};
 ghost use Rattle.arena_mem.specs.Outside.{Rose, content_of};
+ghost use Rattle.pb_schema.specs.declared.schema.Schema.{Schema};
 ghost use Rattle.pb_schema.specs.Frames.{frames_of};
 ghost use Rattle.arena_run.specs.Causes.{ReadsFile};
-ghost use Rattle.arena_run.specs.Ends.{EndsBy, IsOfFile, IsRead, result_fault};
+ghost use Rattle.arena_run.specs.Ends.{EndsBy, IsOfFile, IsOfInput, result_fault};
 ghost use Rattle.arena_run.specs.Faults.{frames_fault, first_fault};
 
 use crate::fault::{Fault, InputKind};
@@ -40,7 +41,7 @@ pub fn read_frames_file<F: Files>(
     ensures few { IfOk result (λ payloads. length payloads ≤ 2 ^ 20) }
     ensures fits { IfOk result (λ payloads. sum_by length payloads + length payloads ≤ 2 ^ 24) }
     ensures whole { IfOk result (λ payloads. IfSome (content_of (F.contents files.old) (string_bytes name)) (λ content. (length content ≤ 2 ^ 24) × (frames_of content ≡ Ok payloads))) }
-    ensures first { IfErr result (λ fault. IfSome (content_of (F.contents files.old) (string_bytes name)) (λ content. (type_no : ℕ) → EndsBy (first_fault type_no content) (Some fault))) }
+    ensures first { IfErr result (λ fault. IfSome (content_of (F.contents files.old) (string_bytes name)) (λ content. (schema : Schema) (type_no : ℕ) → EndsBy (first_fault schema type_no content) (Some fault))) }
 {
     let bytes = read_input(alloc, files, name, InputKind::FrameBytes, FRAME_BYTES_LIMIT)?;
     cut_into_frames(alloc, bytes)
@@ -52,7 +53,7 @@ fn cut_into_frames(alloc: Global, bytes: Vec<u8>) -> Result<Frames, Fault>
     ensures few { IfOk result (λ payloads. length payloads ≤ 2 ^ 20) }
     ensures fits { IfOk result (λ payloads. sum_by length payloads + length payloads ≤ length bytes.items) }
     ensures whole { IfOk result (λ payloads. frames_of bytes.items ≡ Ok payloads) }
-    ensures fault { IfErr result (λ fault. (type_no : ℕ) → (fault ≡ Fault.NoMemory) ⊎ (frames_fault type_no (frames_of bytes.items) ≡ Some fault)) }
+    ensures fault { IfErr result (λ fault. (schema : Schema) (type_no : ℕ) → (fault ≡ Fault.NoMemory) ⊎ (frames_fault schema type_no (frames_of bytes.items) ≡ Some fault)) }
 {
     match read_frames(alloc, bytes) {
         Ok(frames) => Ok(frames),
@@ -65,8 +66,8 @@ fn cut_into_frames(alloc: Global, bytes: Vec<u8>) -> Result<Frames, Fault>
     }
 }
 
-// Reads all of the file of that name, an input that may have so many bytes.
-fn read_input<F: Files>(
+/// Reads all of the file of that name, an input that may have so many bytes.
+pub fn read_input<F: Files>(
     alloc: Global,
     files: &mut F,
     name: String,
@@ -74,10 +75,10 @@ fn read_input<F: Files>(
     limit: u32,
 ) -> Result<Vec<u8>, Fault>
     ensures reads { ReadsFile F.contents F.faults F.blamed (string_bytes name) files.old files.new (result_fault result) }
-    ensures kind { IfErr result IsOfFile }
+    ensures kind { IfErr result (IsOfInput which limit) }
     ensures limit { IfOk result (λ bytes. length bytes.items ≤ limit) }
     ensures content { IfOk result (λ bytes. IfSome (content_of (F.contents files.old) (string_bytes name)) (λ content. bytes.items ≡ content)) }
-    ensures first { IfErr result (λ fault. IsRead (Some fault) → (fault ≡ Fault.TooLong which limit) × IfSome (content_of (F.contents files.old) (string_bytes name)) (λ content. limit < length content)) }
+    ensures long { IfErr result (λ fault. fault ≡ Fault.TooLong which limit → IfSome (content_of (F.contents files.old) (string_bytes name)) (λ content. limit < length content)) }
 {
     if files.pick(name).is_err() {
         return Err(Fault::ReadFault);

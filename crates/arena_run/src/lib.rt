@@ -10,11 +10,15 @@ mod fault;
 mod input;
 mod parse;
 mod program;
+mod set;
+mod tell;
 mod words;
 mod write;
 
+pub use desc_pool::SchemaFault;
 pub use dyn_message::MsgRef;
 pub use fault::{Fault, InputKind};
 pub use pb_schema::Name;
 pub use pb_wire::{WireFault, WireKind};
 pub use program::{Outcome, run};
+pub use tell::fault_text;

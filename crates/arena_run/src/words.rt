@@ -17,16 +17,17 @@ const MOST_SEED: u64 = 4294967295;
 /// The greatest count of frames that are made, which has five digits.
 const MOST_COUNT: u64 = 65535;
 
-/// The words of the command that is built: the name of a type, and that of a frames file.
+/// The words of the command that is built: the set, the name of a type, and that of a frames file.
 #[derive(Clone, Copy, Debug, PartialEq, Eq)]
 pub struct CatWords<'a> {
+    pub set: &'a str,
     pub type_name: &'a str,
     pub frames: &'a str,
 }
 
-/// The type and the frames file, where the words are those of the command that is built.
+/// The set, the type and the frames file, where the words are those of the command that is built.
 pub fn cat_words(words: &[String]) -> Result<CatWords<'_>, Fault>
-    ensures built { IfOk result (λ found. IsCat (map string_bytes words.now) found.type_name.now found.frames.now) }
+    ensures built { IfOk result (λ found. IsCat (map string_bytes words.now) found.set.now found.type_name.now found.frames.now) }
     ensures by_words { IfErr result (λ fault. EndsByWords (map string_bytes words.now) (Some fault)) }
     ensures kind { IfErr result (λ fault. IsOfWords (Some fault)) }
 {
@@ -40,8 +41,12 @@ pub fn cat_words(words: &[String]) -> Result<CatWords<'_>, Fault>
             frames,
             workers,
         } => {
-            if is_built(set, workers) {
-                Ok(CatWords { type_name, frames })
+            if workers == 1 {
+                Ok(CatWords {
+                    set,
+                    type_name,
+                    frames,
+                })
             } else {
                 Err(Fault::NotBuilt)
             }
@@ -49,14 +54,6 @@ pub fn cat_words(words: &[String]) -> Result<CatWords<'_>, Fault>
         Command::Run { .. } => Err(Fault::NotBuilt),
         Command::Gen { .. } => Err(Fault::NotBuilt),
     }
-}
-
-// Whether `cat` is built for this set and number of workers.
-fn is_built(set: &str, workers: u8) -> bool
-    ensures yes { result ≡ true → (set.now ≡ codes "builtin") × (workers ≡ 1) }
-    ensures no { result ≡ false → (set.now ≡ codes "builtin") × (workers ≡ 1) → ⊥ }
-{
-    set == "builtin" && workers == 1
 }
 
 /// What the words ask for; none where they have none of the three forms.

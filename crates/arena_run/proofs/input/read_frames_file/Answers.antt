@@ -6,7 +6,7 @@ use Rattle.arena_run.proofs.input.read_frames_file.Goals as goal
 pub returns-in_err-bytes-clause-first : goal.returns-in_err-bytes-clause-first
 returns-in_err-bytes-clause-first g c =
     let input = c.in_err-bytes.ensures in
-    if_err c.from_residual.result _ _ c.from_residual.ensures.1 (input_first _ (content_of (g.F.Files.contents c.args.files.now) (string_bytes c.args.name)) input.kind input.first)
+    if_err c.from_residual.result _ _ c.from_residual.ensures.1 (input_first _ (content_of (g.F.Files.contents c.args.files.now) (string_bytes c.args.name)) input.kind input.long)
 
 pub returns-clause-first : goal.returns-clause-first
 returns-clause-first g c =
