@@ -1,7 +1,7 @@
 // Sets as protoc writes them are read and linked, and each refusal is told; what the proofs leave to be shown.
 use super::*;
 use pb_schema::{Card, FieldType, Kind, Schema};
-use std::alloc::Global;
+use std::alloc::{AllocError, Global};
 use std::process::Abort;
 use std::test::Fail;
 
@@ -16,6 +16,23 @@ const ORDER: &[u8] =
 // A message with a synthetic oneof in front of a real one, another one behind it, and two more real ones.
 const ONEOFS: &[u8] =
     b"\x0a\x87\x01\x22}\x0a\x01A\x12\x09\x0a\x01z\x18\x09(\x05H\x04\x12\x0c\x0a\x01a\x18\x02(\x05H\x00\x88\x01\x01\x12\x09\x0a\x01m\x18\x01(\x05H\x01\x12\x10\x0a\x01b\x18\x05(\x0b2\x02.AH\x02\x88\x01\x01\x12\x09\x0a\x01l\x18\x03 \x03(\x05\x12\x0d\x0a\x01u\x18\x04 \x03(\x05B\x02\x10\x00\x12\x0d\x0a\x01t\x18\x07 \x03(\x09B\x02\x10\x01B\x04\x0a\x02_aB\x03\x0a\x01rB\x04\x0a\x02_bB\x03\x0a\x01eB\x03\x0a\x01sb\x06proto3";
+
+// The set of a file with a service, an extension, options, reserved names and numbers, and a name for JSON, as protoc writes it:
+//
+//     import "google/protobuf/descriptor.proto";
+//     option java_package = "j";
+//     extend google.protobuf.FieldOptions { string note = 50001; }
+//     message A {
+//       option deprecated = true;
+//       reserved 5 to 6;
+//       reserved "q";
+//       int32 some_name = 1 [deprecated = true, json_name = "n", (note) = "z"];
+//       E kind = 2;
+//     }
+//     enum E { option allow_alias = true; NONE = 0 [deprecated = true]; ALSO = 0; }
+//     service S { rpc Do(A) returns (stream A) { option deprecated = true; } }
+const READ_OVER: &[u8] =
+    b"\x0a\xfa\x01\x0a\x07x.proto\x12\x01x\x1a google/protobuf/descriptor.proto\x22I\x0a\x01A\x12\x1d\x0a\x09some_name\x18\x01 \x01(\x05B\x07\x18\x01\x8a\xb5\x18\x01zR\x01n\x12\x18\x0a\x04kind\x18\x02 \x01(\x0e2\x04.x.ER\x04kind:\x02\x18\x01J\x04\x08\x05\x10\x07R\x01q*\x1f\x0a\x01E\x12\x0c\x0a\x04NONE\x10\x00\x1a\x02\x08\x01\x12\x08\x0a\x04ALSO\x10\x00\x1a\x02\x10\x012\x1c\x0a\x01S\x12\x17\x0a\x02Do\x12\x04.x.A\x1a\x04.x.A\x22\x03\x88\x02\x010\x01:3\x0a\x04note\x12\x1d.google.protobuf.FieldOptions\x18\xd1\x86\x03 \x01(\x09R\x04noteB\x03\x0a\x01jb\x06proto3";
 
 // The greatest set.
 const MOST_BYTES: usize = 1 << 22;
@@ -233,6 +250,92 @@ fn synthetic_oneofs_are_left_out(rt: HostRuntime) -> Result<(), Fail> {
         field(9, Kind::Int32, Card::Member(2)),
     ];
     assert!(rt; is_first(&schema, 3, fields.as_slice()));
+    Ok(())
+}
+
+#[test]
+fn all_else_is_read_over(rt: HostRuntime) -> Result<(), Fail> {
+    let schema = schema_of(rt.alloc(), READ_OVER);
+    let Some(schema) = schema else {
+        assert!(rt; false);
+        return Ok(());
+    };
+    assert_eq!(rt; schema.find("x.A"), Some(0));
+    let fields = [
+        field(1, Kind::Int32, Card::Implicit),
+        field(2, Kind::Enumeration, Card::Implicit),
+    ];
+    assert!(rt; is_first(&schema, 0, fields.as_slice()));
+    Ok(())
+}
+
+// Appends a length-delimited record of fewer than 2^14 bytes.
+fn push_record(bytes: &mut Vec<u8>, tag: u8, payload: &[u8]) -> Result<(), AllocError> {
+    bytes.push(tag)?;
+    bytes.push((payload.len() % 128) as u8 + 128)?;
+    bytes.push((payload.len() / 128 % 128) as u8)?;
+    bytes.extend_from_slice(payload)
+}
+
+// The set of a file of proto3 with these messages. Its length takes three bytes.
+fn set_of(alloc: Global, messages: &[u8]) -> Result<Vec<u8>, AllocError> {
+    let mut file = messages.to_vec(alloc)?;
+    file.extend_from_slice(b"b\x06proto3")?;
+    let mut set = Vec::new(alloc);
+    set.push(10)?;
+    set.push((file.len() % 128) as u8 + 128)?;
+    set.push((file.len() / 128 % 128) as u8 + 128)?;
+    set.push((file.len() / 16384 % 128) as u8)?;
+    set.extend_from_slice(&file)?;
+    Ok(set)
+}
+
+// The set of a message A with so many numbers.
+fn wide_set(alloc: Global, fields: u32) -> Result<Vec<u8>, AllocError> {
+    let mut message = Vec::from_slice(alloc, b"\x0a\x01A")?;
+    for number in 1..fields.saturating_add(1) {
+        let low = (number % 128) as u8 + 128;
+        message.extend_from_slice(&[18, 5, 24, low, (number / 128 % 128) as u8, 40, 5])?;
+    }
+    let mut messages = Vec::new(alloc);
+    push_record(&mut messages, 34, &message)?;
+    set_of(alloc, &messages)
+}
+
+// The set of so many messages, whose names have two letters.
+fn long_set(alloc: Global, count: u32) -> Result<Vec<u8>, AllocError> {
+    let mut messages = Vec::new(alloc);
+    for i in 0..count {
+        let name = [(i / 90 % 90) as u8 + 33, (i % 90) as u8 + 33];
+        messages.extend_from_slice(&[34, 4, 10, 2, name[0], name[1]])?;
+    }
+    set_of(alloc, &messages)
+}
+
+fn is_too_many(alloc: Global, set: &[u8], name: &'static str) -> bool {
+    if set.len() > MOST_BYTES {
+        return false;
+    }
+    match read_set(alloc, set) {
+        Ok(_schema) => false,
+        Err(fault) => match fault {
+            ReadSetFault::Bad(fault) => is_told(&fault, 10, name),
+            ReadSetFault::NoMemory => false,
+        },
+    }
+}
+
+#[test]
+fn limits_are_told(rt: HostRuntime) -> Result<(), Fail> {
+    let alloc = rt.alloc();
+    let set = wide_set(alloc, 512)?;
+    assert!(rt; schema_of(alloc, &set).is_some());
+    let set = wide_set(alloc, 513)?;
+    assert!(rt; is_too_many(alloc, &set, "A"));
+    let set = long_set(alloc, 4096)?;
+    assert!(rt; schema_of(alloc, &set).is_some());
+    let set = long_set(alloc, 4097)?;
+    assert!(rt; is_too_many(alloc, &set, ""));
     Ok(())
 }
 
