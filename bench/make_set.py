@@ -42,7 +42,7 @@ def message(place, messages, fields):
 
 def main():
     messages, fields = int(sys.argv[1]), int(sys.argv[2])
-    body = delimited(2, b"b") + b"".join(
+    body = delimited(1, b"b.proto") + delimited(2, b"b") + b"".join(
         delimited(4, message(place, messages, fields)) for place in range(messages)
     )
     whole = delimited(1, body + delimited(12, b"proto3"))
