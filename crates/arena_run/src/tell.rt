@@ -85,7 +85,7 @@ fn write_piece<E: Sink>(piece: Piece<'_>, err: &mut E) -> Result<(), Failed>
             let mut digits = Buffer::new();
             write_bytes(digits.format(number).as_bytes(), err)
         }
-        Piece::FullName(name) => write_bytes(name.as_bytes(), err),
+        Piece::FullName(name) => write_bytes(name.as_str().as_bytes(), err),
     }
 }
 

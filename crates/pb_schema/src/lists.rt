@@ -6,18 +6,19 @@ use no_memory::NoMemory;
 use std::alloc::Global;
 use std::marker::Model;
 
-/// A full name, as the bytes of its text.
+/// A full name.
 #[derive(Debug, Drop)]
 pub struct Name {
-    bytes: Vec<u8>,
+    text: String,
 }
 
 impl Model for Name {
     ghost use Rattle.std.specs.Prelude.{ℕ, List};
+    ghost use Rattle.std.specs.String.{string_bytes};
 
     ghost Value = { List ℕ };
 
-    ghost view = { λ n. n.bytes.items };
+    ghost view = { λ n. string_bytes n.text };
 }
 
 impl Name {
@@ -26,7 +27,7 @@ impl Name {
         ensures { IfOk result (λ name. name ≡ text.now) }
     {
         Ok(Name {
-            bytes: Vec::from_slice(alloc, text.as_bytes())?,
+            text: String::from_str(alloc, text)?,
         })
     }
 
@@ -34,14 +35,14 @@ impl Name {
     pub fn is(&self, text: &str) -> bool
         ensures { IsTrue result ↔ (self.now ≡ text.now) }
     {
-        self.bytes.as_slice() == text.as_bytes()
+        self.text.as_str() == text
     }
 
-    /// The bytes of its text, where they lie.
-    pub fn as_bytes(&self) -> &[u8]
+    /// The name's text, where it lies.
+    pub fn as_str(&self) -> &str
         ensures { result.now ≡ self.now }
     {
-        self.bytes.as_slice()
+        self.text.as_str()
     }
 }
 

@@ -15,13 +15,9 @@ fn a_schema_is_made_of_lists(rt: HostRuntime) -> Result<(), Fail> {
     let Ok(name) = name else {
         return Ok(());
     };
-    assert_eq!(rt; name.as_bytes(), b"pb.Tick".as_slice());
-    // The bytes of `pb.Tick`.
+    assert_eq!(rt; name.as_str(), "pb.Tick");
     let shown = format!(in rt.alloc(); "{name:?}")?;
-    assert_eq!(rt;
-        shown.as_str(),
-        "Name { bytes: [112, 98, 46, 84, 105, 99, 107] }"
-    );
+    assert_eq!(rt; shown.as_str(), "Name { text: \"pb.Tick\" }");
     let fields = FieldList::of(vec![in rt.alloc(); field]?);
     assert_eq!(rt; fields.items(), [field].as_slice());
     let types = TypeList::of(vec![in rt.alloc();
