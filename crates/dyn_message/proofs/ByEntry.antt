@@ -1,5 +1,5 @@
 -- What a list's slot tells, before and after an append.
-use Rattle.std.proofs.Common.{◌≡◌, ◌+◌, ◌≤◌, ◌<◌, ℕ, List, length, cond, Some, sym, ap, ◌∙◌, subst, arith}
+use Rattle.std.proofs.Common.{◌≡◌, ◌+◌, ◌≤◌, ◌<◌, ℕ, List, length, cond, Some, sym, ap, ◌∙◌, arith}
 use Rattle.std.specs.Option.{option_map}
 use Rattle.std.specs.FinMap as map
 use Rattle.arena_mem.specs.declared.place.Place.{Place}
@@ -15,7 +15,7 @@ use Rattle.msg_layout.specs.Layout.{Layout, entry_of}
 use Rattle.msg_layout.specs.Sound.{FitsIn}
 use Rattle.dyn_message.specs.declared.msg_ref.MsgRef.{MsgRef}
 use Rattle.dyn_message.specs.Feet.{Foot}
-use Rattle.dyn_message.specs.Slots.{part, word, place_in}
+use Rattle.dyn_message.specs.Slots.{word, place_in}
 use Rattle.dyn_message.specs.Arrays.{most_elements}
 use Rattle.dyn_message.specs.Stands.{IsList, Stands}
 use Rattle.dyn_message.specs.Lists.{count_at}

@@ -1,4 +1,4 @@
-use Rattle.std.proofs.Common.{◌≡◌, sym, ◌∙◌, arith}
+use Rattle.std.proofs.Common.{sym, ◌∙◌, arith}
 use Rattle.dyn_message.proofs.Growing.{room_stays, same_space}
 use Rattle.dyn_message.proofs.by_entry.room_behind.Goals as goal
 

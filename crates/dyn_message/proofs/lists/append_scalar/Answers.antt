@@ -1,4 +1,4 @@
-use Rattle.std.proofs.Common.{sym, ◌∙◌, arith}
+use Rattle.std.proofs.Common.{arith}
 use Rattle.dyn_message.proofs.Opening.{has_field}
 use Rattle.dyn_message.proofs.ByEntry.{told_count}
 use Rattle.dyn_message.proofs.lists.append_scalar.Goals as goal
