@@ -19,10 +19,10 @@ pub mod Growing
 pub mod ElementLaws
 pub mod Appending
 pub mod ListLaws
+pub mod ByEntry
 pub mod UnknownLaws
 pub mod NestedLists
 pub mod OneShape
 pub mod Cases
 mod Rows
 pub mod NodeFields
-pub mod ByEntry
