@@ -30,6 +30,7 @@ use Rattle.arena_run.specs.Frames.{EndsByFrames, GrowsByFrames, StandsRead}
 use Rattle.arena_run.specs.Stands.{StandShort, StandWritten}
 use Rattle.arena_run.specs.Sets.{IsGiven, is_built_in, set_given}
 use Rattle.arena_run.specs.Words.{IsCat, IsTypeOf, HasNoType}
+use Rattle.arena_run.proofs.AllStand.{apart_one}
 use Rattle.arena_run.proofs.Firsts.{parsed_first, has_trees}
 use Rattle.arena_run.proofs.WordForms.{same_set, same_type, same_frames}
 
@@ -168,12 +169,12 @@ stand_at schema places buffers lent messages same st = (st.0, st.1, subst (λ xs
 pub written_well : (words : List (List ℕ)) (files : Option NamedFiles) (schema : Schema) (places : Places) (buffers : Buffers) (messages : List MsgRef) (was now : Option (List ℕ)) → Lawful schema → IsGiven words files schema
     → (type_no : ℕ) × (trees : List Tree) × StandShort schema places buffers type_no messages trees
     → ((type_no : ℕ) (trees : List Tree) → StandShort schema places buffers type_no messages trees → Appends was now (framed_texts schema type_no trees)) → StandWritten words files places buffers messages None was now
-written_well words files schema places buffers messages was now lawful given st wrote = record { schema = schema; lawful = lawful; given = given; type_no = st.0; trees = st.1; stand = st.2.apart; all = λ _. wrote st.0 st.1 st.2; part = λ is. absurd (cc) }
+written_well words files schema places buffers messages was now lawful given st wrote = record { schema = schema; lawful = lawful; given = given; type_no = st.0; trees = st.1; stand = st.2.apart; one = λ no others. apart_one schema places buffers st.0 no messages st.1 others st.2.apart; all = λ _. wrote st.0 st.1 st.2; part = λ is. absurd (cc) }
 
 pub written_part : (words : List (List ℕ)) (files : Option NamedFiles) (schema : Schema) (places : Places) (buffers : Buffers) (messages : List MsgRef) (was now : Option (List ℕ)) → Lawful schema → IsGiven words files schema
     → (type_no : ℕ) × (trees : List Tree) × StandShort schema places buffers type_no messages trees
     → ((type_no : ℕ) (trees : List Tree) → StandShort schema places buffers type_no messages trees → TookPart was now (framed_texts schema type_no trees)) → StandWritten words files places buffers messages (Some WriteFault) was now
-written_part words files schema places buffers messages was now lawful given st took = record { schema = schema; lawful = lawful; given = given; type_no = st.0; trees = st.1; stand = st.2.apart; all = λ is. absurd (cc); part = λ _. took st.0 st.1 st.2 }
+written_part words files schema places buffers messages was now lawful given st took = record { schema = schema; lawful = lawful; given = given; type_no = st.0; trees = st.1; stand = st.2.apart; one = λ no others. apart_one schema places buffers st.0 no messages st.1 others st.2.apart; all = λ is. absurd (cc); part = λ _. took st.0 st.1 st.2 }
 
 -- THE FRAMES FILE
 

@@ -38,8 +38,8 @@ pub record StandShort (schema : Schema) (places : Places) (buffers : Buffers) (t
   pub apart : StandApart schema places buffers type_no messages trees
   pub short : AllByRecursion (λ tree. length (text_of schema type_no tree) < 2 ^ 62) trees
 
--- the messages stand for trees of one type of a lawful schema, which is the one that the set gives where that is told, and what a sink took is
--- their text: all of it where the run ended well, and a front that isn't all where the sink failed
+-- the messages stand for one list of trees, of one type of a lawful schema, which is the one that the set gives where that is told, and what a
+-- sink took is their text: all of it where the run ended well, and a front that isn't all where the sink failed
 pub record StandWritten (words : List (List ℕ)) (files : Option NamedFiles) (places : Places) (buffers : Buffers) (messages : List MsgRef) (end : Option Fault) (was now : Option (List ℕ)) : Type 0 where
   pub schema : Schema
   pub lawful : Lawful schema
@@ -47,5 +47,6 @@ pub record StandWritten (words : List (List ℕ)) (files : Option NamedFiles) (p
   pub type_no : ℕ
   pub trees : List Tree
   pub stand : StandApart schema places buffers type_no messages trees
+  pub one : (no : ℕ) (others : List Tree) → StandApart schema places buffers no messages others → others ≡ trees
   pub all : end ≡ None → Appends was now (framed_texts schema type_no trees)
   pub part : end ≡ Some WriteFault → TookPart was now (framed_texts schema type_no trees)

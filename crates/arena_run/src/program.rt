@@ -88,7 +88,7 @@ pub fn run<F: Files, O: Sink, E: Sink>(
     ensures apart { (p q : Place) → IsLive (places_of result.arena) p → IsLive (places_of result.arena) q → (p ≡ q → ⊥) → Apart p q }
     ensures no_registers { IsUnparsed result.fault → result.registers.items ≡ [] }
 
-    // Whatever the files tell, the registers stand for trees, and what the sink took is the text of these.
+    // Whatever the files tell, the registers stand for one list of trees, and what the sink took is the text of these.
     ensures stand { IsParsed result.fault → StandWritten (map string_bytes words.now) (F.contents files.old) (places_of result.arena) (buffers_of result.arena) result.registers.items result.fault (O.taken out.old) (O.taken out.new) }
 
     // A file without a fault that is there, of a type that the set has, ends well, or in want of memory, where nothing failed.
