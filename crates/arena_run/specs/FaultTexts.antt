@@ -1,10 +1,9 @@
 -- The text of each fault: one line, with its numbers in decimal and its names as they stand.
-use Rattle.std.specs.Prelude.{◌≡◌, ◌+◌, ◌≤◌, ℕ, ⊤, List, [], ◌∷◌, ◌++◌, length, take, Option, None, Some, codes}
+use Rattle.std.specs.Prelude.{◌≡◌, ◌≤◌, ℕ, ⊤, List, [], ◌∷◌, ◌++◌, length, take, Option, None, Some, codes}
 use Rattle.std.specs.List.{concat}
 use Rattle.std.specs.Fmt.{decimal}
 use Rattle.std.specs.Io.KnownBytes.{Appends}
 use Rattle.arena_mem.specs.Outside.{Rose}
-use Rattle.pb_schema.specs.declared.wire_fault.WireFault.{WireFault}
 use Rattle.pb_schema.specs.declared.wire_fault.WireKind.{WireKind}
 use Rattle.pb_schema.specs.declared.wire_fault.WireKind.TheVariants.{Cut, LongVarint, BadTag, BadLength, GroupEnd, TooDeep, NotUtf8}
 use Rattle.desc_pool.specs.declared.fault.SchemaFault.{SchemaFault}

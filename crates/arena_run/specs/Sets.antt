@@ -1,5 +1,5 @@
 -- What the word SET gives: the schema that is built in, or that of the descriptor set in the file of that name.
-use Rattle.std.specs.Prelude.{◌≡◌, ◌<◌, ◌^◌, ℕ, Bool, true, false, List, length, Option, None, Some, Result, Ok, Err, IfSome, nat_le, codes, if◌then◌else◌}
+use Rattle.std.specs.Prelude.{◌≡◌, ◌^◌, ℕ, Bool, true, false, List, length, Option, Some, Result, Ok, Err, IfSome, nat_le, codes, if◌then◌else◌}
 use Rattle.std.specs.Option.{option_map}
 use Rattle.std.specs.Str.{bytes_eq}
 use Rattle.arena_mem.specs.Outside.{NamedFiles, content_of}

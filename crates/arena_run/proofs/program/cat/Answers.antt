@@ -1,10 +1,8 @@
-use Rattle.std.proofs.Common.{ℕ, List, map, Some, arith}
+use Rattle.std.proofs.Common.{map, Some, arith}
 use Rattle.std.specs.String.{string_bytes}
 use Rattle.std.specs.Io.KnownBytes.{Appends}
 use Rattle.arena_mem.specs.Outside.{TookPart}
-use Rattle.pb_schema.specs.declared.schema.Schema.{Schema}
 use Rattle.pb_schema.specs.Payloads.{framed_texts}
-use Rattle.pb_schema.specs.Tree.{Tree}
 use Rattle.arena_run.specs.Stands.{StandApart, StandShort}
 use Rattle.arena_run.specs.declared.fault.Fault.TheVariants.{WriteFault}
 use Rattle.arena_run.proofs.CauseLaws.{of_trees, texts_at, stand_at, written_well, written_part, file_of_write, grows_on}

@@ -1,11 +1,8 @@
-use Rattle.std.proofs.Common.{◌≡◌, None, Some, map, subst, arith}
+use Rattle.std.proofs.Common.{map}
 use Rattle.std.specs.String.{string_bytes}
-use Rattle.arena_mem.specs.Outside.{content_of}
 use Rattle.arena_run.specs.Causes.{EndsByWords, EndsByFile}
-use Rattle.arena_run.specs.Ends.{IsUnparsed}
-use Rattle.arena_run.specs.Frames.{GrowsByFrames}
-use Rattle.arena_run.proofs.CauseLaws.{at_err, set_before, set_contents, is_given, type_below, file_of_none, file_of_set, file_of_type, file_of_frames, grows_of_frames, trees_named}
-use Rattle.arena_run.proofs.WordForms.{words_unset, words_untyped, words_typed}
+use Rattle.arena_run.proofs.CauseLaws.{at_err, file_of_none, file_of_set, file_of_frames}
+use Rattle.arena_run.proofs.WordForms.{words_unset, words_untyped}
 use Rattle.arena_run.proofs.program.read_messages.Goals as goal
 
 -- THE WORDS

@@ -1,5 +1,4 @@
-use Rattle.std.proofs.Common.{map, Ok}
-use Rattle.std.specs.String.{string_bytes}
+use Rattle.std.proofs.Common.{Ok}
 use Rattle.serial_arena.specs.Key.{key_of}
 use Rattle.serial_arena.specs.Serial.{places_of, buffers_of, blocks_of}
 use Rattle.arena_run.specs.Ends.{EndsBySet}
