@@ -1,8 +1,7 @@
-use Rattle.std.proofs.Common.{◌≡◌, ℕ, ◌+◌, [], ◌∷◌, ◌++◌, List, length, true, sym, subst, ◌∙◌, inr, Result, Ok, Err}
+use Rattle.std.proofs.Common.{◌≡◌, ◌+◌, [], ◌∷◌, length, true, sym, subst, ◌∙◌, inr, Result, Ok, Err}
 use Rattle.std.specs.Prelude.{IsSome, OnOk}
 use Rattle.std.specs.Result.{is_ok}
 use Rattle.std.proofs.lemmas.Bool.{false≢true}
-use Rattle.serial_arena.specs.Serial.{SerialState}
 use Rattle.ts_arena.specs.Arena.{ArenaState}
 use Rattle.ts_arena.specs.Places.{IsPartOf}
 use Rattle.ts_arena.proofs.Regions.{region_named}

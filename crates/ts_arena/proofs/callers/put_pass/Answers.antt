@@ -1,8 +1,5 @@
-use Rattle.std.proofs.Common.{◌≡◌, ℕ, ◌+◌, List, [], ◌∷◌, ◌++◌, length, sym, subst, ◌∙◌, ap, refl, ⊎_elim, arith}
-use mathlib.Core.Option.{some}
-use lib.ListN.{get_elem?}
+use Rattle.std.proofs.Common.{sym, subst, ⊎_elim}
 use Rattle.arena_list.proofs.Words.Lists.{at_end}
-use Rattle.ts_arena.specs.declared.pass.Pass.{Pass}
 use Rattle.ts_arena.specs.Passes.{AreAllOf, IsPassOf}
 use Rattle.ts_arena.proofs.callers.put_pass.Goals as goal
 

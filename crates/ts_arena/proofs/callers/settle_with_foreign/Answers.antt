@@ -1,6 +1,4 @@
-use Rattle.std.proofs.Common.{◌≡◌, ℕ, ◌+◌, List, [], ◌∷◌, ◌++◌, length, sym, subst, ◌∙◌, ap, refl, ⊎_elim, arith}
-use mathlib.Core.Option.{some}
-use lib.ListN.{get_elem?}
+use Rattle.std.proofs.Common.{sym, subst, ◌∙◌, ap, ⊎_elim}
 use Rattle.arena_list.proofs.Words.Lists.{at_end}
 use Rattle.ts_arena.specs.declared.pass.Pass.{Pass}
 use Rattle.ts_arena.specs.Settling.{AreOwn}

@@ -1,10 +1,9 @@
-use Rattle.std.proofs.Common.{◌≡◌, ℕ, ◌+◌, List, [], ◌∷◌, ◌++◌, length, sym, subst, ◌∙◌, ap, refl, arith}
+use Rattle.std.proofs.Common.{◌≡◌, List, [], ◌∷◌, length, sym, subst}
 use mathlib.Core.Option.{some}
 use lib.ListN.{get_elem?}
 use Rattle.arena_list.proofs.Words.Lists.{at_more}
 use Rattle.arena_list.proofs.Steps.Seats.{at_end_of}
 use Rattle.ts_arena.specs.declared.pass.Pass.{Pass}
-use Rattle.ts_arena.specs.Passes.{AreAllOf}
 use Rattle.ts_arena.proofs.callers.take_pass.Goals as goal
 
 pub returns-in-Some-clause-all : goal.returns-in-Some-clause-all

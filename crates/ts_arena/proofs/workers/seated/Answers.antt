@@ -1,8 +1,6 @@
-use Rattle.std.proofs.Common.{◌≡◌, ◌≤◌, ℕ, ◌++◌, ◌∷◌, [], List, sym, subst, arith}
-use Rattle.std.specs.Prelude.{All, Some, Option}
+use Rattle.std.proofs.Common.{◌∷◌, [], sym, subst, arith}
+use Rattle.std.specs.Prelude.{All, Some}
 use Rattle.std.proofs.lemmas.List.Elements.{All-append, All-cons, All-nil}
-use Rattle.life_ids.specs.Cache.{CacheState}
-use Rattle.ts_arena.specs.declared.pass.Pass.{Pass}
 use Rattle.ts_arena.specs.Ready.{IsReady}
 use Rattle.ts_arena.proofs.workers.seated.Goals as goal
 
