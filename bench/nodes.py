@@ -26,15 +26,15 @@ FIELDS = {
     "count_of": ("get_scalar", 2, "tt"),
     "put_name": ("set_bytes", 1, "subst (λ s. is_utf8 s ≡ true) (sym c.as_bytes.ensures.value) (is_utf8-from_IsUtf8 c.args.name.now c.utf8.name)"),
     "name_length": ("get_bytes", 1, "tt"),
-    "append_mark": ("append_scalar", 4, "c.ranges.bits.fits"),
-    "marks_sum": ("element_scalar", 4, "tt"),
+    "append_mark": ("append_scalar", 4, "omega (arith, c.ranges.bits.fits)"),
+    "marks_sum": ("element_scalar-sum", 4, "tt"),
 }
 COUNTS = ["append_mark", "marks_sum"]
 ANSWER = """
 pub {call}-requires-clause-field : goal.{call}-requires-clause-field
 {call}-requires-clause-field g c = node_has _ _ c.args.types.now c.args.msg.type_no {number} c.requires.schema c.requires.node (record {{ field = _; found = refl; card = tt; type = {type} }})
 """
-IMPORTS = """use Rattle.std.proofs.Common.{{refl, sym, subst, ◌≡◌, true}}
+IMPORTS = """use Rattle.std.proofs.Common.{{refl, sym, subst, ◌≡◌, true, arith}}
 use Rattle.std.specs.Str.{{is_utf8}}
 use Rattle.std.proofs.lemmas.Str.{{is_utf8-from_IsUtf8}}
 use Rattle.dyn_message.proofs.NodeFields.{{node_has}}
