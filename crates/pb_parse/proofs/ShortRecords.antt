@@ -1,6 +1,6 @@
 -- A record of a field that holds one number, a varint: its form, and what it makes of the message.
-use Rattle.std.proofs.Common.{◌≡◌, ◌≢◌, ◌⊎◌, ◌+◌, ◌-◌, ◌<◌, ◌≤◌, ℕ, zero, suc, List, [], ◌∷◌, length, take, drop, Bool, true, false, eqb, Result, Ok, Err, Some, true≢false, refl, sym, ap, ◌∙◌, subst, arith, drop-drop}
-use Rattle.std.specs.Prelude.{◌||◌, ◌&&◌, IsOk}
+use Rattle.std.proofs.Common.{◌≡◌, ◌≢◌, ◌+◌, ◌-◌, ◌<◌, ℕ, List, drop, Bool, true, false, eqb, Result, Ok, Err, Some, true≢false, refl, sym, ap, ◌∙◌, subst, arith, drop-drop}
+use Rattle.std.specs.Prelude.{◌||◌, IsOk}
 use Rattle.std.proofs.lemmas.Bool.{eqb-true}
 use Rattle.arena_mem.specs.Places.{Places, Buffers}
 use Rattle.pb_schema.specs.declared.kind.Card.{Card}
@@ -8,9 +8,8 @@ use Rattle.pb_schema.specs.declared.kind.Card.TheVariants as cards
 use Rattle.pb_schema.specs.declared.schema.Schema.{Schema}
 use Rattle.pb_schema.specs.declared.wire_fault.WireFault.{WireFault}
 use Rattle.pb_schema.specs.Cards.{is_repeated}
-use Rattle.pb_schema.specs.Reads.{read_map}
 use Rattle.pb_schema.specs.Fits.{fields_of, takes}
-use Rattle.pb_schema.specs.Form.{Form, read_tag, read_scalar}
+use Rattle.pb_schema.specs.Form.{read_tag, read_scalar}
 use Rattle.pb_schema.specs.HeldAt.{field_at, with_held}
 use Rattle.pb_schema.specs.Kinds.{Coding, ValueType, Scalar, Characters, Octets, Nested, value_type_of, value_wire}
 use Rattle.pb_schema.specs.Lawful.{Lawful}
@@ -20,14 +19,13 @@ use Rattle.pb_schema.proofs.FormLaws.{same_ok, not_ok}
 use Rattle.msg_layout.specs.declared.entry.Entry.{Entry}
 use Rattle.pb_wire.specs.declared.wire_record.WireRecord.{WireRecord}
 use Rattle.pb_wire.specs.Placed.{moved_tag}
-use Rattle.pb_wire.specs.PlacedRecord.{placed}
 use Rattle.dyn_message.specs.declared.msg_ref.MsgRef.{MsgRef}
 use Rattle.dyn_message.specs.Changes.{NowStands}
 use Rattle.dyn_message.specs.Feet.{Foot}
 use Rattle.dyn_message.specs.Fields.{IsNumberType, number_put}
 use Rattle.dyn_message.specs.Stands.{IsSingle}
 use Rattle.pb_parse.specs.Contents.{fits_wire}
-use Rattle.pb_parse.specs.Parsing.{Came, IsFor}
+use Rattle.pb_parse.specs.Parsing.{Came}
 use Rattle.pb_schema.specs.Walk.{Stop}
 use Rattle.pb_parse.specs.Reading.{contents_read, finished, record_at, untyped, walked, with_taken}
 use Rattle.pb_parse.specs.Short.{IsShort}

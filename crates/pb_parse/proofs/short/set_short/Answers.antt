@@ -1,4 +1,4 @@
-use Rattle.std.proofs.Common.{refl, sym, ap, ◌∙◌, subst}
+use Rattle.std.proofs.Common.{refl, sym, subst}
 use Rattle.pb_schema.specs.Fitted.{IsPatternOf}
 use Rattle.pb_parse.proofs.ContentsLaws.{field_there}
 use Rattle.pb_parse.proofs.ShortRecords.{is_number_kind, short_walk, short_came}

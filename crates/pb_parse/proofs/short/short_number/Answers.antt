@@ -1,5 +1,5 @@
 use Rattle.std.proofs.Common.{◌≡◌, true, drop, sym, ap, ◌∙◌, arith}
-use Rattle.pb_schema.specs.Kinds.{Coding, Scalar, value_type_of, value_wire}
+use Rattle.pb_schema.specs.Kinds.{value_type_of, value_wire}
 use Rattle.pb_schema.specs.Form.{read_scalar}
 use Rattle.pb_parse.specs.Contents.{fits_wire}
 use Rattle.pb_parse.proofs.ShortRecords.{short_form, one_value, takes_number, is_number_kind}
