@@ -1,6 +1,6 @@
-use Rattle.std.proofs.Common.{sym, subst, ap, ◌∙◌, arith, length}
+use Rattle.std.proofs.Common.{sym, subst, ap, arith, length}
 use Rattle.pb_schema.specs.Lawful.{NumbersAscend, FieldsAllowed}
-use Rattle.msg_layout.proofs.FarFields.{far_fields, are_far}
+use Rattle.msg_layout.proofs.FarFields.{are_far}
 use Rattle.dyn_message.proofs.hand_made.far_fields.Goals as goal
 
 pub returns-clause-numbers : goal.returns-clause-numbers
