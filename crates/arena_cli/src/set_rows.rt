@@ -2,7 +2,7 @@
 // is told is the fault's. Runs over a set of two files follow, and runs whose second sink fails.
 
 use crate::rows::{Failing, end_over};
-use arena_run::fault_text;
+use arena_run::{Fault, fault_text};
 use std::alloc::Global;
 use std::process::Abort;
 use std::test::Fail;
@@ -266,40 +266,59 @@ const ROWS: [SetRow; 25] = [
     ),
 ];
 
-#[test]
-fn set_rows_end_as_they_say(rt: HostRuntime) -> Result<(), Fail> {
-    for (name, words, set, frames, status, written, told) in &ROWS {
+// Each row ends as it says. A loop over the table itself would have the whole table in each goal.
+fn check_rows(rt: &impl Abort, alloc: Global, rows: &[SetRow]) -> Result<(), Fail> {
+    for (name, words, set, frames, status, written, told) in rows {
         let files = [("set", *set), ("f", *frames)];
-        let end = end_over(rt.alloc(), words, &files, &NO_FAILURE, 7)?;
+        let end = end_over(alloc, words, &files, &NO_FAILURE, 7)?;
         assert_eq!(rt; &end.status, status, "{name}");
         assert_eq!(rt; end.written.as_slice(), *written, "{name}");
         assert_eq!(rt; end.told.as_slice(), told.as_bytes(), "{name}");
         if let Some(fault) = &end.fault {
-            let Ok(text) = fault_text(rt.alloc(), fault) else {
-                assert!(rt; false, "{name}");
-                return Ok(());
-            };
-            assert_eq!(rt; text.as_str(), *told, "{name}");
+            let same = has_text(alloc, fault, told);
+            assert!(rt; same, "{name}");
         }
     }
     Ok(())
 }
 
+// Whether this is the text of the fault.
+fn has_text(alloc: Global, fault: &Fault, wanted: &str) -> bool {
+    match fault_text(alloc, fault) {
+        Ok(text) => text.as_str() == wanted,
+        Err(_) => false,
+    }
+}
+
 #[test]
-fn orders_are_written_as_they_were(rt: HostRuntime) -> Result<(), Fail> {
-    let alloc = rt.alloc();
+fn set_rows_end_as_they_say(rt: HostRuntime) -> Result<(), Fail> {
+    check_rows(&rt, rt.alloc(), &ROWS)
+}
+
+// So many frames of a type of the set are written as they were.
+fn check_frames(
+    rt: &impl Abort,
+    alloc: Global,
+    set: &[u8],
+    type_name: &str,
+    frame: &[u8],
+) -> Result<(), Fail> {
     let mut frames = Vec::new(alloc);
     for _ in 0..200 {
-        frames.extend_from_slice(ORDER_FRAME)?;
+        frames.extend_from_slice(frame)?;
     }
-    let files = [("set", ORDER), ("f", frames.as_slice())];
-    let words = ["cat", "set", "shop.Order", "f", "1"];
+    let files = [("set", set), ("f", frames.as_slice())];
+    let words = ["cat", "set", type_name, "f", "1"];
     let end = end_over(alloc, &words, &files, &NO_FAILURE, 65536)?;
     assert_eq!(rt; end.status, 0);
     assert_eq!(rt; end.registers, 200);
-    assert_eq!(rt; end.written.len(), 6600);
     assert_eq!(rt; end.written.as_slice(), frames.as_slice());
     Ok(())
+}
+
+#[test]
+fn orders_are_written_as_they_were(rt: HostRuntime) -> Result<(), Fail> {
+    check_frames(&rt, rt.alloc(), ORDER, "shop.Order", ORDER_FRAME)
 }
 
 #[test]
@@ -318,51 +337,65 @@ fn a_set_above_its_limit_is_too_long(rt: HostRuntime) -> Result<(), Fail> {
 
 // A run whose second sink fails at the call with this number ends as it does where none fails, and a front of its line is
 // told.
-fn check_telling(rt: &impl Abort, alloc: Global, call: u64) -> Result<(), Fail> {
-    let line = b"frames: frame 1: cut at byte 1\n".as_slice();
+fn check_telling(
+    rt: &impl Abort,
+    alloc: Global,
+    set: &[u8],
+    frames: &[u8],
+    line: &[u8],
+    call: u64,
+) -> Result<(), Fail> {
+    let tells = [call];
     let failing = Failing {
         reads: &[],
         writes: &[],
-        tells: &[call],
+        tells: &tells,
     };
-    let files = [("set", ONE_FILE), ("f", b"\x00\x02\x08\x80".as_slice())];
+    let files = [("set", set), ("f", frames)];
     let end = end_over(alloc, CAT, &files, &failing, 5)?;
-    assert_eq!(rt; end.status, 4, "at {call}");
-    assert_eq!(rt; end.written.as_slice(), b"".as_slice(), "at {call}");
-    assert!(rt; line.starts_with(&end.told), "at {call}");
-    assert_eq!(rt; end.told.len() < line.len(), call < 9, "at {call}");
-    let files = [("set", ONE_FILE), ("f", b"\x02\x08\x07".as_slice())];
-    let end = end_over(alloc, CAT, &files, &failing, 5)?;
-    assert_eq!(rt; end.status, 0, "at {call}");
     assert_eq!(rt;
-        end.written.as_slice(),
-        b"\x02\x08\x07".as_slice(),
+        end.status,
+        if line.is_empty() { 0 } else { 4 },
         "at {call}"
     );
-    assert_eq!(rt; end.told.as_slice(), b"".as_slice(), "at {call}");
+    assert_eq!(rt; end.written.is_empty(), !line.is_empty(), "at {call}");
+    assert!(rt; line.starts_with(&end.told), "at {call}");
+    assert_eq!(rt;
+        end.told.len() < line.len(),
+        !line.is_empty() && call < 9,
+        "at {call}"
+    );
     Ok(())
 }
 
 #[test]
 fn a_sink_of_texts_may_fail(rt: HostRuntime) -> Result<(), Fail> {
+    let line = b"frames: frame 1: cut at byte 1\n".as_slice();
     for call in 0..12u64 {
-        check_telling(&rt, rt.alloc(), call)?;
+        check_telling(&rt, rt.alloc(), ONE_FILE, b"\x00\x02\x08\x80", line, call)?;
+        check_telling(&rt, rt.alloc(), ONE_FILE, b"\x02\x08\x07", b"", call)?;
     }
+    Ok(())
+}
+
+// A run whose files fail at the call with this number: six calls pick and read them.
+fn check_reading(rt: &impl Abort, alloc: Global, set: &[u8], call: u64) -> Result<(), Fail> {
+    let reads = [call];
+    let failing = Failing {
+        reads: &reads,
+        writes: &[],
+        tells: &[],
+    };
+    let files = [("set", set), ("f", b"\x00".as_slice())];
+    let end = end_over(alloc, CAT, &files, &failing, 5)?;
+    assert_eq!(rt; end.status, if call < 6 { 6 } else { 0 }, "at {call}");
     Ok(())
 }
 
 #[test]
 fn each_reading_may_fail(rt: HostRuntime) -> Result<(), Fail> {
-    let files = [("set", ONE_FILE), ("f", b"\x00".as_slice())];
     for call in 0..8u64 {
-        let reads = [call];
-        let failing = Failing {
-            reads: &reads,
-            writes: &[],
-            tells: &[],
-        };
-        let end = end_over(rt.alloc(), CAT, &files, &failing, 5)?;
-        assert_eq!(rt; end.status, if call < 6 { 6 } else { 0 }, "at {call}");
+        check_reading(&rt, rt.alloc(), ONE_FILE, call)?;
     }
     Ok(())
 }
