@@ -29,7 +29,7 @@ const GROUP_END: u8 = 4;
 const FOUR_BYTES: u8 = 5;
 
 // So many bytes at `at`, as a payload: its place and its length.
-#[inline]
+#[inline(always)]
 fn read_fixed(bytes: &[u8], at: u32, len: u32) -> Result<(u32, u32), WireFault>
     requires at { at ≤ length bytes.now }
     requires short { length bytes.now < 2 ^ 31 }
@@ -46,7 +46,7 @@ fn read_fixed(bytes: &[u8], at: u32, len: u32) -> Result<(u32, u32), WireFault>
 }
 
 // The length at `start`, and the place behind it.
-#[inline]
+#[inline(always)]
 fn read_length(bytes: &[u8], start: u32) -> Result<(u32, u32), WireFault>
     requires start { start ≤ length bytes.now }
     requires short { length bytes.now < 2 ^ 31 }
@@ -66,7 +66,7 @@ fn read_length(bytes: &[u8], start: u32) -> Result<(u32, u32), WireFault>
 }
 
 // The payload behind a tag of a wire type: its place and its length. The tags of a group have none.
-#[inline]
+#[inline(always)]
 fn read_payload(bytes: &[u8], at: u32, wire: u8) -> Result<(u32, u32), WireFault>
     requires at { at ≤ length bytes.now }
     requires short { length bytes.now < 2 ^ 31 }
@@ -161,6 +161,7 @@ fn read_group(bytes: &[u8], start: u32, number: u32, left: u32) -> Result<(u32, 
 /// - `Cut` at the first byte of a payload or a fixed value that isn't all there, and at the end of the bytes
 ///   where a group isn't closed;
 /// - `GroupEnd` at an end tag outside a group or with another number, and `TooDeep` at the tag of a group at depth 101.
+#[inline(always)]
 pub fn read_record(bytes: &[u8], start: u32, depth: u32) -> Result<WireRecord, WireFault>
     requires start { start < length bytes.now }
     requires short { length bytes.now < 2 ^ 31 }
