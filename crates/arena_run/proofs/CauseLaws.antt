@@ -29,7 +29,7 @@ use Rattle.arena_run.specs.Faults.{bad_frame, payloads_fault, first_fault, trees
 use Rattle.arena_run.specs.Frames.{EndsByFrames, GrowsByFrames, StandsRead}
 use Rattle.arena_run.specs.Stands.{StandShort, StandWritten}
 use Rattle.arena_run.specs.Sets.{IsGiven, is_built_in, set_given}
-use Rattle.arena_run.specs.Words.{IsCat, IsTypeOf, HasNoType}
+use Rattle.arena_run.specs.Words.{IsCat, IsTypeOf, IsTyped, HasNoType}
 use Rattle.arena_run.proofs.AllStand.{apart_one}
 use Rattle.arena_run.proofs.Firsts.{parsed_first, has_trees}
 use Rattle.arena_run.proofs.WordForms.{same_set, same_type, same_frames}
@@ -155,6 +155,16 @@ pub stands_parsed : {A : Type 0} (parsed : Result A Fault) (items : A → List M
 stands_parsed (Ok x) items schema type_no places buffers found payloads few whole sound stand = stands_read schema type_no places buffers found (items x) payloads few whole sound stand
 stands_parsed (Err fault) items schema type_no places buffers found payloads few whole sound stand = tt
 
+-- the type of the named one is that of each that the words name
+pub typed_as : (words : List (List ℕ)) (schema : Schema) (set type_name name : List ℕ) (type_no : ℕ) → IsCat words set type_name name → IsTypeOf schema type_name type_no → IsTyped words schema type_no
+typed_as words schema set type_name name type_no is_cat is_type = λ other other_type frames other_cat.
+    subst (λ t. IsTypeOf schema t type_no) (same_type words set other type_name other_type name frames is_cat other_cat) is_type
+
+-- messages that were read, at the type that the words name
+pub stand_typed : (words : List (List ℕ)) (schema : Schema) (set type_name name : List ℕ) (type_no : ℕ) (places : Places) (buffers : Buffers) (found : Option (List ℕ)) (messages : List MsgRef) → IsCat words set type_name name → IsTypeOf schema type_name type_no → StandsRead schema places buffers found type_no messages
+    → (n : ℕ) × (trees : List Tree) × IsTyped words schema n × StandShort schema places buffers n messages trees
+stand_typed words schema set type_name name type_no places buffers found messages is_cat is_type st = (type_no, st.trees, typed_as words schema set type_name name type_no is_cat is_type, st.stand)
+
 -- what is written for trees, of messages that were lent
 pub texts_at : (schema : Schema) (places : Places) (buffers : Buffers) (lent messages : List MsgRef) → lent ≡ messages → (Took : List ℕ → Type 0)
     → ((type_no : ℕ) (trees : List Tree) → StandShort schema places buffers type_no lent trees → Took (framed_texts schema type_no trees))
@@ -162,19 +172,19 @@ pub texts_at : (schema : Schema) (places : Places) (buffers : Buffers) (lent mes
 texts_at schema places buffers lent messages same Took wrote type_no trees all = wrote type_no trees (subst (λ xs. StandShort schema places buffers type_no xs trees) (sym same) all)
 
 -- messages that can be written
-pub stand_at : (schema : Schema) (places : Places) (buffers : Buffers) (lent messages : List MsgRef) → lent ≡ messages → (type_no : ℕ) × (trees : List Tree) × StandShort schema places buffers type_no messages trees
+pub stand_at : (schema : Schema) (places : Places) (buffers : Buffers) (lent messages : List MsgRef) → lent ≡ messages → (words : List (List ℕ)) → (type_no : ℕ) × (trees : List Tree) × IsTyped words schema type_no × StandShort schema places buffers type_no messages trees
     → (type_no : ℕ) × (trees : List Tree) × StandShort schema places buffers type_no lent trees
-stand_at schema places buffers lent messages same st = (st.0, st.1, subst (λ xs. StandShort schema places buffers st.0 xs st.1) (sym same) st.2)
+stand_at schema places buffers lent messages same words st = (st.0, st.1, subst (λ xs. StandShort schema places buffers st.0 xs st.1) (sym same) st.3)
 
 pub written_well : (words : List (List ℕ)) (files : Option NamedFiles) (schema : Schema) (places : Places) (buffers : Buffers) (messages : List MsgRef) (was now : Option (List ℕ)) → Lawful schema → IsGiven words files schema
-    → (type_no : ℕ) × (trees : List Tree) × StandShort schema places buffers type_no messages trees
+    → (type_no : ℕ) × (trees : List Tree) × IsTyped words schema type_no × StandShort schema places buffers type_no messages trees
     → ((type_no : ℕ) (trees : List Tree) → StandShort schema places buffers type_no messages trees → Appends was now (framed_texts schema type_no trees)) → StandWritten words files places buffers messages None was now
-written_well words files schema places buffers messages was now lawful given st wrote = record { schema = schema; lawful = lawful; given = given; type_no = st.0; trees = st.1; stand = st.2.apart; one = λ no others. apart_one schema places buffers st.0 no messages st.1 others st.2.apart; all = λ _. wrote st.0 st.1 st.2; part = λ is. absurd (cc) }
+written_well words files schema places buffers messages was now lawful given st wrote = record { schema = schema; lawful = lawful; given = given; type_no = st.0; typed = st.2; trees = st.1; stand = st.3.apart; one = λ no others. apart_one schema places buffers st.0 no messages st.1 others st.3.apart; all = λ _. wrote st.0 st.1 st.3; part = λ is. absurd (cc) }
 
 pub written_part : (words : List (List ℕ)) (files : Option NamedFiles) (schema : Schema) (places : Places) (buffers : Buffers) (messages : List MsgRef) (was now : Option (List ℕ)) → Lawful schema → IsGiven words files schema
-    → (type_no : ℕ) × (trees : List Tree) × StandShort schema places buffers type_no messages trees
+    → (type_no : ℕ) × (trees : List Tree) × IsTyped words schema type_no × StandShort schema places buffers type_no messages trees
     → ((type_no : ℕ) (trees : List Tree) → StandShort schema places buffers type_no messages trees → TookPart was now (framed_texts schema type_no trees)) → StandWritten words files places buffers messages (Some WriteFault) was now
-written_part words files schema places buffers messages was now lawful given st took = record { schema = schema; lawful = lawful; given = given; type_no = st.0; trees = st.1; stand = st.2.apart; one = λ no others. apart_one schema places buffers st.0 no messages st.1 others st.2.apart; all = λ is. absurd (cc); part = λ _. took st.0 st.1 st.2 }
+written_part words files schema places buffers messages was now lawful given st took = record { schema = schema; lawful = lawful; given = given; type_no = st.0; typed = st.2; trees = st.1; stand = st.3.apart; one = λ no others. apart_one schema places buffers st.0 no messages st.1 others st.3.apart; all = λ is. absurd (cc); part = λ _. took st.0 st.1 st.3 }
 
 -- THE FRAMES FILE
 

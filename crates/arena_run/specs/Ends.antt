@@ -1,5 +1,5 @@
 -- How a run ends: the status of each fault, and the stage of the run at which it comes.
-use Rattle.std.specs.Prelude.{◌≡◌, ◌⊎◌, ◌<◌, ◌≤◌, ℕ, List, Option, None, Some, Result, Ok, Err}
+use Rattle.std.specs.Prelude.{◌≡◌, ◌⊎◌, ◌^◌, ◌<◌, ◌≤◌, ⊤, ℕ, List, Option, None, Some, Result, Ok, Err}
 use Rattle.arena_run.specs.declared.fault.Fault.{Fault}
 use Rattle.arena_run.specs.declared.fault.Fault.TheVariants.{NoMemory, Usage, Schema as SetFault, NoType, FrameCut, BadFrame, ReadFault, WriteFault, TooLong, NotBuilt}
 use Rattle.arena_run.specs.declared.fault.InputKind.{InputKind}
@@ -42,6 +42,17 @@ abbrev pub stage_of_input : InputKind → ℕ
 stage_of_input SetBytes = at_set
 stage_of_input FrameBytes = at_framing
 stage_of_input FrameCount = at_framing
+
+-- how much there may be of an input
+abbrev pub limit_of : InputKind → ℕ
+limit_of SetBytes = 2 ^ 22
+limit_of FrameBytes = 2 ^ 24
+limit_of FrameCount = 2 ^ 20
+
+-- what is too long tells its own limit
+abbrev pub IsLimited : Fault → Type 0
+IsLimited (TooLong which limit) = limit ≡ limit_of which
+IsLimited _ = ⊤
 
 -- the status of a fault, and the stage at which it comes; want of memory comes up to that stage, and a fault of reading where a set or the
 -- frames file is read

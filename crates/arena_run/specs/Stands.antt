@@ -15,6 +15,7 @@ use Rattle.dyn_message.specs.Stands.{StandsFor}
 use Rattle.arena_run.specs.declared.fault.Fault.{Fault}
 use Rattle.arena_run.specs.declared.fault.Fault.TheVariants.{WriteFault}
 use Rattle.arena_run.specs.Sets.{IsGiven}
+use Rattle.arena_run.specs.Words.{IsTyped}
 
 -- messages of a type, each for its tree, in order; the feet are those of all of them
 abbrev pub AllStand : Schema → Places → Buffers → ℕ → List MsgRef → List Tree → List Foot → Type 0
@@ -38,13 +39,14 @@ pub record StandShort (schema : Schema) (places : Places) (buffers : Buffers) (t
   pub apart : StandApart schema places buffers type_no messages trees
   pub short : AllByRecursion (λ tree. length (text_of schema type_no tree) < 2 ^ 62) trees
 
--- the messages stand for one list of trees, of one type of a lawful schema, which is the one that the set gives where that is told, and what a
--- sink took is their text: all of it where the run ended well, and a front that isn't all where the sink failed
+-- the messages stand for one list of trees, of the type that the words name, of a lawful schema, which is the one that the set gives where that is
+-- told; and what a sink took is their text: all of it where the run ended well, and a front that isn't all where the sink failed
 pub record StandWritten (words : List (List ℕ)) (files : Option NamedFiles) (places : Places) (buffers : Buffers) (messages : List MsgRef) (end : Option Fault) (was now : Option (List ℕ)) : Type 0 where
   pub schema : Schema
   pub lawful : Lawful schema
   pub given : IsGiven words files schema
   pub type_no : ℕ
+  pub typed : IsTyped words schema type_no
   pub trees : List Tree
   pub stand : StandApart schema places buffers type_no messages trees
   pub one : (no : ℕ) (others : List Tree) → StandApart schema places buffers no messages others → others ≡ trees

@@ -104,3 +104,7 @@ pub record IsTypeOf (schema : Schema) (type_name : List ℕ) (type_no : ℕ) : T
   pub named : HasName schema type_name type_no
   pub first : NoneBelow schema type_name type_no
   pub fits : type_no < 2 ^ 32
+
+-- the type is the one of this schema that the words name
+abbrev pub IsTyped : List (List ℕ) → Schema → ℕ → Type 0
+IsTyped words schema type_no = (set type_name frames : List ℕ) → IsCat words set type_name frames → IsTypeOf schema type_name type_no

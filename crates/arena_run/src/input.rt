@@ -5,7 +5,7 @@ ghost use Rattle.arena_mem.specs.Outside.{Rose, content_of};
 ghost use Rattle.pb_schema.specs.declared.schema.Schema.{Schema};
 ghost use Rattle.pb_schema.specs.Frames.{frames_of};
 ghost use Rattle.arena_run.specs.Causes.{ReadsFile};
-ghost use Rattle.arena_run.specs.Ends.{EndsBy, IsOfFile, IsOfInput, result_fault};
+ghost use Rattle.arena_run.specs.Ends.{EndsBy, IsLimited, IsOfFile, IsOfInput, result_fault};
 ghost use Rattle.arena_run.specs.Faults.{frames_fault, first_fault};
 
 use crate::fault::{Fault, InputKind};
@@ -38,6 +38,7 @@ pub fn read_frames_file<F: Files>(
 ) -> Result<Frames, Fault>
     ensures reads { ReadsFile F.contents F.faults F.blamed (string_bytes name) files.old files.new (result_fault result) }
     ensures kind { IfErr result IsOfFile }
+    ensures limits { IfErr result IsLimited }
     ensures few { IfOk result (λ payloads. length payloads ≤ 2 ^ 20) }
     ensures fits { IfOk result (λ payloads. sum_by length payloads + length payloads ≤ 2 ^ 24) }
     ensures whole { IfOk result (λ payloads. IfSome (content_of (F.contents files.old) (string_bytes name)) (λ content. (length content ≤ 2 ^ 24) × (frames_of content ≡ Ok payloads))) }
@@ -50,6 +51,7 @@ pub fn read_frames_file<F: Files>(
 // The frames of a file's bytes.
 fn cut_into_frames(alloc: Global, bytes: Vec<u8>) -> Result<Frames, Fault>
     ensures kind { IfErr result (λ fault. IsOfFile fault × (fault ≡ Fault.ReadFault → ⊥)) }
+    ensures limits { IfErr result IsLimited }
     ensures few { IfOk result (λ payloads. length payloads ≤ 2 ^ 20) }
     ensures fits { IfOk result (λ payloads. sum_by length payloads + length payloads ≤ length bytes.items) }
     ensures whole { IfOk result (λ payloads. frames_of bytes.items ≡ Ok payloads) }

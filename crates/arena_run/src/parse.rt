@@ -6,7 +6,7 @@ ghost use Rattle.pb_schema.specs.Fault.{fault_of};
 ghost use Rattle.pb_schema.specs.Payloads.{trees_of, bad_payload};
 ghost use Rattle.pb_schema.specs.TreeOf.{tree_of};
 ghost use Rattle.arena_run.specs.Causes.{most_made};
-ghost use Rattle.arena_run.specs.Ends.{IsOfPayloads};
+ghost use Rattle.arena_run.specs.Ends.{IsLimited, IsOfPayloads};
 ghost use Rattle.arena_run.specs.Faults.{bad_frame};
 ghost use Rattle.arena_run.specs.Stands.{StandShort};
 ghost use Rattle.arena_run.specs.Made.{IsMade, IsBadBy};
@@ -32,6 +32,7 @@ pub fn parse_frames<M: Memory>(
     ensures stand { IfOk result (λ messages. IsSomeAnd (trees_of types.now type_no frames.now) (λ trees. StandShort types.now (M.places mem.new) (M.buffers mem.new) type_no messages.items trees)) }
     ensures sound { IfOk result (λ _. bad_payload types.now type_no frames.now ≡ None) }
     ensures kind { IfErr result IsOfPayloads }
+    ensures limits { IfErr result IsLimited }
     ensures fault { IfErr result (λ fault. (fault ≡ Fault.NoMemory) ⊎ (option_map bad_frame (bad_payload types.now type_no frames.now) ≡ Some fault)) }
     ensures grows { Grows M.key M.places M.buffers M.blocks (most_made frames.now) (most_made frames.now) mem.old mem.new }
 {

@@ -1,5 +1,5 @@
 // The top call, and the outcome of a run.
-ghost use Rattle.std.specs.Prelude.{◌≡◌, ◌⊎◌, ◌*◌, ◌^◌, ◌<◌, ◌≤◌, ℕ, List, [], None, Some, Ok, length, map, IfOk, IfErr, IfNone};
+ghost use Rattle.std.specs.Prelude.{◌≡◌, ◌⊎◌, ◌*◌, ◌^◌, ◌<◌, ◌≤◌, ℕ, List, [], None, Some, Ok, length, map, IfOk, IfErr, IfSome, IfNone};
 ghost use Rattle.std.specs.String.{string_bytes};
 ghost use Rattle.std.specs.Io.KnownBytes.{Appends};
 ghost use Rattle.arena_mem.specs.declared.place.Place.{Place};
@@ -14,14 +14,14 @@ ghost use Rattle.pb_schema.specs.Payloads.{framed_texts};
 ghost use Rattle.pb_schema.specs.Tree.{Tree};
 ghost use Rattle.arena_run.specs.Causes.{EndsByWords, EndsByFile, GrowsByFile, AreFew, most_made};
 ghost use Rattle.arena_run.specs.Contents.{OfContent, OfTrees};
-ghost use Rattle.arena_run.specs.Ends.{status_of, IsParsed, IsUnparsed, IsUnplaced, EndsWell, result_fault};
+ghost use Rattle.arena_run.specs.Ends.{IsLimited, status_of, IsParsed, IsUnparsed, IsUnplaced, EndsWell, result_fault};
 ghost use Rattle.arena_run.specs.declared.fault.Fault.{Fault as TheFault};
 ghost use Rattle.arena_run.specs.FaultTexts.{IsTold};
 ghost use Rattle.arena_run.specs.Faults.{first_fault};
 ghost use Rattle.arena_run.specs.Sets.{IsGiven, set_given};
 ghost use Rattle.arena_run.specs.Stands.{StandApart, StandShort, StandWritten};
 ghost use Rattle.arena_run.specs.Frames.{EndsByFrames, GrowsByFrames, StandsRead};
-ghost use Rattle.arena_run.specs.Words.{HasNoType, IsCat, IsTypeOf};
+ghost use Rattle.arena_run.specs.Words.{HasNoType, IsCat, IsTypeOf, IsTyped};
 
 use crate::fault::Fault;
 use crate::input::read_frames_file;
@@ -73,6 +73,7 @@ pub fn run<F: Files, O: Sink, E: Sink>(
     ensures status { result.status ≡ status_of result.fault }
     ensures by_words { EndsByWords (map string_bytes words.now) result.fault }
     ensures by_file { EndsByFile F.contents F.faults F.blamed (map string_bytes words.now) files.old files.new result.fault }
+    ensures limits { IfSome result.fault IsLimited }
 
     // Where all goes well, the sink took the framed texts of the decoded payloads, in order, and nothing else; where it
     // fails, a front of them and not all; on every other fault it was never called. It fails only where its count rose.
@@ -134,6 +135,7 @@ fn status_of_fault(fault: &Option<Fault>) -> u8
 fn find_type(alloc: Global, types: &Layouts, type_name: &str) -> Result<u32, Fault>
     ensures found { IfOk result (IsTypeOf types.now type_name.now) }
     ensures none { IfErr result (λ fault. (fault ≡ Fault.NoMemory) ⊎ ((fault ≡ Fault.NoType type_name.now) × HasNoType types.now type_name.now)) }
+    ensures limits { IfErr result IsLimited }
 {
     if let Some(type_no) = types.schema().find(type_name) {
         return Ok(type_no);
@@ -161,6 +163,7 @@ fn read_of_type<F: Files, M: Memory>(
     mem: &mut M,
 ) -> Result<Vec<MsgRef>, Fault>
     requires { type_no < length types.now.types }
+    ensures limits { IfErr result IsLimited }
     ensures by_frames { EndsByFrames F.contents F.faults F.blamed types.now type_no frames.now files.old files.new (result_fault result) }
     ensures memory { GrowsByFrames M.key M.places M.buffers M.blocks (content_of (F.contents files.old) frames.now) (result_fault result) mem.old mem.new }
     ensures stand { IfOk result (λ messages. StandsRead types.now (M.places mem.new) (M.buffers mem.new) (content_of (F.contents files.old) frames.now) type_no messages.items) }
@@ -181,12 +184,13 @@ fn read_messages<F: Files, M: Memory>(
 ) -> Result<Parsed, Fault>
     ensures by_words { EndsByWords (map string_bytes words.now) (result_fault result) }
     ensures by_file { EndsByFile F.contents F.faults F.blamed (map string_bytes words.now) files.old files.new (result_fault result) }
+    ensures limits { IfErr result IsLimited }
     ensures memory { GrowsByFile M.key M.places M.buffers M.blocks (map string_bytes words.now) (F.contents files.old) (result_fault result) mem.old mem.new }
     ensures unparsed { IfErr result (λ fault. IsUnparsed (Some fault)) }
     ensures lawful { IfOk result (λ parsed. Lawful parsed.types) }
     ensures given { IfOk result (λ parsed. IsGiven (map string_bytes words.now) (F.contents files.old) parsed.types) }
     ensures trees { IfOk result (λ parsed. OfTrees (map string_bytes words.now) (F.contents files.old) (λ schema type_no trees. StandShort schema (M.places mem.new) (M.buffers mem.new) type_no parsed.messages.items trees)) }
-    ensures stand { IfOk result (λ parsed. (type_no : ℕ) × (trees : List Tree) × StandShort parsed.types (M.places mem.new) (M.buffers mem.new) type_no parsed.messages.items trees) }
+    ensures stand { IfOk result (λ parsed. (type_no : ℕ) × (trees : List Tree) × IsTyped (map string_bytes words.now) parsed.types type_no × StandShort parsed.types (M.places mem.new) (M.buffers mem.new) type_no parsed.messages.items trees) }
 {
     let named = cat_words(words)?;
     let types = read_types(alloc, named.set, files)?;
@@ -207,6 +211,7 @@ fn cat<F: Files, O: Sink, M: Memory>(
 ) -> (Option<Fault>, Vec<MsgRef>)
     ensures by_words { EndsByWords (map string_bytes words.now) result.0 }
     ensures by_file { EndsByFile F.contents F.faults F.blamed (map string_bytes words.now) files.old files.new result.0 }
+    ensures limits { IfSome result.0 IsLimited }
     ensures memory { GrowsByFile M.key M.places M.buffers M.blocks (map string_bytes words.now) (F.contents files.old) result.0 mem.old mem.new }
     ensures trees { IsParsed result.0 → OfTrees (map string_bytes words.now) (F.contents files.old) (λ schema type_no trees. StandApart schema (M.places mem.new) (M.buffers mem.new) type_no result.1.items trees) }
     ensures bytes { IfNone result.0 (OfTrees (map string_bytes words.now) (F.contents files.old) (λ schema type_no trees. Appends (O.taken out.old) (O.taken out.new) (framed_texts schema type_no trees))) }

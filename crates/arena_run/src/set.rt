@@ -4,7 +4,7 @@ ghost use Rattle.arena_mem.specs.Outside.{content_of};
 ghost use Rattle.pb_schema.specs.Builtin.{builtin};
 ghost use Rattle.pb_schema.specs.Lawful.{Lawful};
 ghost use Rattle.arena_run.specs.Causes.{ReadsFile, ReadsSet};
-ghost use Rattle.arena_run.specs.Ends.{Gives, IsOfSet, result_fault};
+ghost use Rattle.arena_run.specs.Ends.{IsLimited, Gives, IsOfSet, result_fault};
 ghost use Rattle.arena_run.specs.Sets.{is_built_in, set_answer, set_given};
 
 use crate::fault::{Fault, InputKind};
@@ -24,6 +24,7 @@ pub fn read_types<F: Files>(alloc: Global, set: &str, files: &mut F) -> Result<L
     ensures reads { ReadsSet F.contents F.faults F.blamed set.now files.old files.new (result_fault result) }
     ensures gives { IfSome (set_given (F.contents files.old) set.now) (λ answer. Gives answer result) }
     ensures kind { IfErr result IsOfSet }
+    ensures limits { IfErr result IsLimited }
     ensures lawful { IfOk result Lawful }
 {
     let schema = read_schema(alloc, set, files)?;
@@ -38,6 +39,7 @@ fn read_schema<F: Files>(alloc: Global, set: &str, files: &mut F) -> Result<Sche
     ensures reads { ReadsSet F.contents F.faults F.blamed set.now files.old files.new (result_fault result) }
     ensures gives { IfSome (set_given (F.contents files.old) set.now) (λ answer. Gives answer result) }
     ensures kind { IfErr result IsOfSet }
+    ensures limits { IfErr result IsLimited }
     ensures lawful { IfOk result Lawful }
 {
     if set == "builtin" {
@@ -55,6 +57,7 @@ fn read_set_file<F: Files>(alloc: Global, name: &str, files: &mut F) -> Result<S
     ensures reads { ReadsFile F.contents F.faults F.blamed name.now files.old files.new (result_fault result) }
     ensures gives { IfSome (content_of (F.contents files.old) name.now) (λ content. Gives (set_answer content) result) }
     ensures kind { IfErr result IsOfSet }
+    ensures limits { IfErr result IsLimited }
     ensures lawful { IfOk result Lawful }
 {
     let Ok(name) = String::from_str(alloc, name) else {
@@ -69,6 +72,7 @@ fn link_set(alloc: Global, bytes: &[u8]) -> Result<Schema, Fault>
     requires { length bytes.now ≤ 2 ^ 22 }
     ensures gives { Gives (set_answer bytes.now) result }
     ensures kind { IfErr result IsOfSet }
+    ensures limits { IfErr result IsLimited }
     ensures past { IfErr result (λ fault. fault ≡ Fault.ReadFault → ⊥) }
     ensures lawful { IfOk result Lawful }
 {

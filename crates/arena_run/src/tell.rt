@@ -1,8 +1,7 @@
 // The text of a fault, told to a sink piece by piece.
-ghost use Rattle.std.specs.Prelude.{◌≡◌, [], ◌∷◌, None, Some, OnOk, OnErr, IfOk, codes};
+ghost use Rattle.std.specs.Prelude.{◌≡◌, ◌++◌, [], ◌∷◌, None, Some, OnOk, OnErr, IfOk, codes};
 ghost use Rattle.std.specs.Fmt.{decimal};
 ghost use Rattle.std.specs.Io.KnownBytes.{Appends};
-ghost use Rattle.std.specs.Str.{IsUtf8};
 ghost use Rattle.std.specs.String.{string_bytes};
 ghost use Rattle.arena_mem.specs.Outside.{HasCause, TookPart};
 ghost use Rattle.arena_run.specs.declared.fault.Fault.{Fault as TheFault};
@@ -10,7 +9,7 @@ ghost use Rattle.arena_run.specs.FaultTexts.{IsTold, fault_text_of, input_words,
 ghost use Rattle.std.specs.List.{concat};
 
 use crate::fault::{Fault, InputKind};
-use arena_mem::{Failed, MemorySink, Sink};
+use arena_mem::{Failed, Sink};
 use desc_pool::SchemaFault;
 use itoa::Buffer;
 use no_memory::NoMemory;
@@ -27,19 +26,37 @@ enum Piece<'a> {
     FullName(&'a Name),
 }
 
-/// The text of a fault: one line, with a line feed. The names in it are text, as they were made of text; no clause of a
-/// name says so, hence the premise.
+/// The text of a fault: one line, with a line feed.
 pub fn fault_text(alloc: Global, fault: &Fault) -> Result<String, NoMemory>
-    ensures { IfOk result (λ text. IsUtf8 (fault_text_of fault.now) → string_bytes text ≡ fault_text_of fault.now) }
+    ensures { IfOk result (λ text. string_bytes text ≡ fault_text_of fault.now) }
 {
-    let mut sink = MemorySink::new(alloc, u32::MAX, Vec::new(alloc));
-    if tell(fault, &mut sink).is_err() {
-        return Err(NoMemory);
+    let pieces = pieces_of(fault);
+    joined(alloc, &pieces)
+}
+
+// The pieces, one behind the other.
+fn joined(alloc: Global, pieces: &[Piece<'_>]) -> Result<String, NoMemory>
+    ensures { IfOk result (λ text. string_bytes text ≡ pieces_text pieces.now) }
+{
+    let mut text = String::new(alloc);
+    for piece in pieces {
+        push_piece(&mut text, *piece)?;
     }
-    match String::from_utf8_lossy(alloc, sink.taken()) {
-        Ok(text) => Ok(text),
-        Err(_) => Err(NoMemory),
+    Ok(text)
+}
+
+fn push_piece(text: &mut String, piece: Piece<'_>) -> Result<(), NoMemory>
+    ensures { OnOk result (string_bytes text.new ≡ string_bytes text.old ++ piece_text piece.entry) }
+{
+    match piece {
+        Piece::Words(words) => text.push_str(words)?,
+        Piece::Number(number) => {
+            let mut digits = Buffer::new();
+            text.push_str(digits.format(number))?;
+        }
+        Piece::FullName(name) => text.push_str(name.as_str())?,
     }
+    Ok(())
 }
 
 /// Tells a sink the fault that a run ended with, where there is one. What the sink answers changes nothing.

@@ -1,7 +1,7 @@
 // The words of the command line.
 ghost use Rattle.std.specs.Prelude.{◌≡◌, ◌+◌, ◌^◌, ◌<◌, ◌≤◌, true, false, Some, length, map, codes, IfOk, IfErr, IfSome, IfNone, MatchOption};
 ghost use Rattle.std.specs.String.{string_bytes};
-ghost use Rattle.arena_run.specs.Ends.{IsOfWords};
+ghost use Rattle.arena_run.specs.Ends.{IsLimited, IsOfWords};
 ghost use Rattle.arena_run.specs.Causes.{EndsByWords};
 ghost use Rattle.arena_run.specs.Words.{number_in, Spells, IsNumber, HasNoForm, IsReadFrom, IsCat};
 
@@ -30,6 +30,7 @@ pub fn cat_words(words: &[String]) -> Result<CatWords<'_>, Fault>
     ensures built { IfOk result (λ found. IsCat (map string_bytes words.now) found.set.now found.type_name.now found.frames.now) }
     ensures by_words { IfErr result (λ fault. EndsByWords (map string_bytes words.now) (Some fault)) }
     ensures kind { IfErr result (λ fault. IsOfWords (Some fault)) }
+    ensures limits { IfErr result IsLimited }
 {
     let Some(command) = command_of(words) else {
         return Err(Fault::Usage);

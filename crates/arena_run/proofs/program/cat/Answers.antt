@@ -10,7 +10,7 @@ use Rattle.arena_run.proofs.WordForms.{words_written}
 use Rattle.arena_run.proofs.program.cat.Goals as goal
 
 pub write_messages-requires : goal.write_messages-requires
-write_messages-requires g c = let M = g.M.Memory in stand_at _ (M.places c.read_messages.new.mem) (M.buffers c.read_messages.new.mem) c.deref.result.now c.in-Ok.parsed.messages.items c.deref.ensures.value c.in-Ok.ensures.stand
+write_messages-requires g c = let M = g.M.Memory in stand_at _ (M.places c.read_messages.new.mem) (M.buffers c.read_messages.new.mem) c.deref.result.now c.in-Ok.parsed.messages.items c.deref.ensures.value (map string_bytes c.args.words.now) c.in-Ok.ensures.stand
 
 -- IT ENDS WELL
 
