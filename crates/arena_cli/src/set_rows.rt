@@ -27,6 +27,8 @@ const NO_FAILURE: Failing<'static> = Failing {
 
 const CAT: &[&str] = &["cat", "set", "p.M", "f", "1"];
 
+const ORDERS: &[&str] = &["cat", "set", "shop.Order", "f", "1"];
+
 // The name of a row, the words, the set and the frames file, the status, the bytes that are written and the line that is told.
 type SetRow = (
     &'static str,
@@ -296,20 +298,14 @@ fn set_rows_end_as_they_say(rt: HostRuntime) -> Result<(), Fail> {
 }
 
 // So many frames of a type of the set are written as they were.
-fn check_frames(
-    rt: &impl Abort,
-    alloc: Global,
-    set: &[u8],
-    type_name: &str,
-    frame: &[u8],
-) -> Result<(), Fail> {
+fn check_frames(rt: &impl Abort, alloc: Global, set: &[u8], frame: &[u8]) -> Result<(), Fail> {
     let mut frames = Vec::new(alloc);
     for _ in 0..200 {
         frames.extend_from_slice(frame)?;
     }
-    let files = [("set", set), ("f", frames.as_slice())];
-    let words = ["cat", "set", type_name, "f", "1"];
-    let end = end_over(alloc, &words, &files, &NO_FAILURE, 65536)?;
+    let set = set.to_vec(alloc)?;
+    let files = [("set", set.as_slice()), ("f", frames.as_slice())];
+    let end = end_over(alloc, ORDERS, &files, &NO_FAILURE, 65536)?;
     assert_eq!(rt; end.status, 0);
     assert_eq!(rt; end.registers, 200);
     assert_eq!(rt; end.written.as_slice(), frames.as_slice());
@@ -318,7 +314,7 @@ fn check_frames(
 
 #[test]
 fn orders_are_written_as_they_were(rt: HostRuntime) -> Result<(), Fail> {
-    check_frames(&rt, rt.alloc(), ORDER, "shop.Order", ORDER_FRAME)
+    check_frames(&rt, rt.alloc(), ORDER, ORDER_FRAME)
 }
 
 #[test]
