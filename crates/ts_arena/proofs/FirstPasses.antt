@@ -3,7 +3,7 @@ use Rattle.std.proofs.Common.{◌≡◌, ℕ, ◌^◌, ◌<◌, Bool, true, fals
 use Rattle.std.proofs.lemmas.Option.{none-some}
 use mathlib.Core.Option.{some}
 use lib.ListN.{get_elem?}
-use Rattle.serial_arena.specs.Serial.{SerialState, used_of}
+use Rattle.serial_arena.specs.Serial.{SerialState}
 use Rattle.ts_arena.specs.contracts.boxed.BoxedArena.{the_row}
 use Rattle.arena_list.specs.declared.entry.Entry.{Entry}
 use Rattle.arena_list.specs.declared.list.ArenaList.{ArenaList}
@@ -73,7 +73,7 @@ module _ (a : ArenaState) (is : IsArena a) (callers : List ℕ) (spares : Owners
       part = e.part;
       has_part = first.beside_value k e at own;
       owned = owned_as e e.slot tells.1 refl own o;
-      empty = λ none. ap used_of (are.empty k e at);
+      empty = λ none. let same = are.empty k e at in record { no_placements = ap (λ (s : SerialState). s.placements) same; no_buffers = ap (λ (s : SerialState). s.kept) same };
     }
 
     pass_is : IsPassOf shared pass

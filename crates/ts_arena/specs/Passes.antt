@@ -4,14 +4,16 @@ use mathlib.Core.Option.{some}
 use lib.ListN.{get_elem?}
 use Rattle.arena_block.specs.declared.policy.Policy.{Policy}
 use Rattle.arena_block.specs.Policy.{IsValid}
-use Rattle.serial_arena.specs.Serial.{SerialState, used_of}
+use Rattle.serial_arena.specs.Serial.{SerialState, IsUnused, used_of}
 use Rattle.ts_arena.specs.contracts.boxed.BoxedArena.{the_row}
 use Rattle.life_ids.specs.Cache.{CacheState}
 use Rattle.arena_list.specs.declared.entry.Entry.{Entry}
 use Rattle.arena_list.specs.declared.list.ArenaList.{ArenaList}
 use Rattle.arena_list.specs.declared.list.ListSeat.{ListSeat}
 use Rattle.arena_list.specs.Rule.Founded.{Meter, others_of}
+use Rattle.arena_list.specs.Marks.OfParts.{marks}
 use Rattle.arena_list.specs.Rule.Views.{hand, who, mine, shown}
+use Rattle.arena_list.specs.Calls.Outcomes.{HasSummed}
 use Rattle.arena_list.specs.Calls.Seats.{view, life_of, founding_of, callers_of, wards_of, IsSeatOf, IsAmong, HasValue}
 use Rattle.ts_arena.specs.Arena.{ArenaState, IsOwned, AreAdopted}
 use Rattle.ts_arena.specs.Sharing.{Owners, AreSpares}
@@ -67,6 +69,10 @@ steps_of p = (view p.seat).list_steps
 abbrev pub shown_to : Pass → ℕ
 shown_to p = shown (view p.seat)
 
+-- between these two the pass looked once at the list, and what it was shown since then of the state of each slot in it adds up to what it has been shown in all
+abbrev pub HasAddedUp : Pass → Pass → Type 0
+HasAddedUp old new = HasSummed marks (view old.seat) (view new.seat) (shown_to new)
+
 -- this is the caller's serial arena, as it was left last, or as the arena had it when it was shared
 abbrev pub HasPart : Pass → SerialState → Type 0
 HasPart p part = SeatHas p.seat part
@@ -78,7 +84,8 @@ pub record IsPassOf (sh : SharedState) (p : Pass) : Type 0 where
   pub part : SerialState
   pub has_part : HasPart p part
   pub owned : IsOwned sh.life sh.policy (hand (view p.seat)).slot (caller_of p) part
-  pub empty : slot_of p ≡ None → used_of part ≡ 0
+  -- a caller that hasn't joined has placed and kept nothing
+  pub empty : slot_of p ≡ None → IsUnused part
 
 -- these passes were all made by this shared arena
 abbrev pub AreAllOf : SharedState → List Pass → Type 0

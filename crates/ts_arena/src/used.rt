@@ -1,7 +1,7 @@
 //! A caller adds up what a shared arena has used.
 ghost use Rattle.std.specs.Prelude.{◌≡◌, ◌+◌, ◌≤◌};
 ghost use Rattle.serial_arena.specs.Serial.{SerialState, used_of};
-ghost use Rattle.ts_arena.specs.Passes.{caller_of, slot_of, steps_of, shown_to, adopted_used, HasPart, IsPassOf};
+ghost use Rattle.ts_arena.specs.Passes.{caller_of, slot_of, steps_of, shown_to, adopted_used, HasAddedUp, HasPart, IsPassOf};
 
 use crate::pass::Pass;
 use crate::shared::Shared;
@@ -19,6 +19,7 @@ impl Shared {
         ensures own { (s : SerialState) → HasPart pass.old s → used_of s ≤ result }
         ensures earlier { shown_to pass.old + adopted_used self.now ≤ result }
         ensures shown { result ≡ shown_to pass.new + adopted_used self.now }
+        ensures summed { HasAddedUp pass.old pass.new }
         ensures steps { (steps_of pass.old + 1 ≤ steps_of pass.new) × (steps_of pass.new ≤ steps_of pass.old + 65) }
     {
         self.list.sizes(&mut pass.seat) + self.adopted_used
