@@ -10,8 +10,9 @@ use Rattle.arena_list.specs.declared.list.ArenaList.{ArenaList}
 use Rattle.arena_list.specs.declared.list.ListSeat.{ListSeat}
 use Rattle.arena_list.specs.declared.for_clauses.mark.Mark.{Mark}
 use Rattle.arena_list.specs.declared.for_clauses.view.View.{View}
+use Rattle.arena_list.specs.Rule.Founded.{Differ, slot}
 use Rattle.arena_list.specs.Rule.Views.{hand, who, mine, spare, when, unless}
-use Rattle.arena_list.specs.Calls.Seats.{view}
+use Rattle.arena_list.specs.Calls.Seats.{view, IsAmong}
 use Rattle.arena_list.specs.Making.Made.{IsMadeOf, IsFirst, AreFirst}
 use Rattle.arena_list.proofs.Words.Lists.{at_below, at_there}
 use Rattle.arena_list.proofs.Words.Few.{at_mapped, len_map}
@@ -21,7 +22,7 @@ use Rattle.arena_list.proofs.Calls.SeatFacts.{mine_tells}
 use Rattle.ts_arena.specs.declared.pass.Pass.{Pass}
 use Rattle.ts_arena.specs.Arena.{ArenaState, IsArena, IsOwned, AreHeld}
 use Rattle.ts_arena.specs.Sharing.{Owners, AreSpares}
-use Rattle.ts_arena.specs.Passes.{SharedState, serial_meter, pass_of, IsPassOf, IsShared, IsSharedFrom, IsFirstPass, AreFirstPasses, adopted_used}
+use Rattle.ts_arena.specs.Passes.{SharedState, serial_meter, pass_of, IsPassOf, IsShared, IsSharedFrom, IsFirstPass, AreFirstPasses, adopted_used, entries_of}
 
 -- a slot that isn't in the list is a spare
 pub spare_tells : (v : View Mark) (s : ℕ) → spare v ≡ Some s → (mine v ≡ None) × ((hand v).slot ≡ s)
@@ -39,6 +40,7 @@ module _ (a : ArenaState) (is : IsArena a) (callers : List ℕ) (spares : Owners
     born = is.born;
     policy = is.policy;
     life_is = made.life_is;
+    slots = subst (λ (z : Owners × Owners). Differ (map slot (z.0 ++ z.1))) (λ i. (sym made.linked_are i, sym made.spares_are i)) held.slots;
     resting_are = λ e among. let at = filter_tells _ a.owners among.0 e (sym (ap (λ (l : Owners). get_elem? l among.0) made.wards_are) ∙ among.1) in is.owners.held.each at.0 e at.1;
     adopted = is.adopted;
     made_is = n ∙ sym (ap length made.callers_are);
@@ -49,6 +51,9 @@ module _ (a : ArenaState) (is : IsArena a) (callers : List ℕ) (spares : Owners
   pub shared_from : IsSharedFrom a callers shared
   shared_from = record { life_is = refl; policy_is = refl; adopted_are = refl; begun = made.linked_are; resting_are = made.wards_are; made = ap length made.callers_are }
 
+  among_made : (e : Entry SerialState) → IsAmong (a.owners ++ spares) e → IsAmong (entries_of shared) e
+  among_made e among = subst (λ (z : Owners × Owners). IsAmong (z.0 ++ z.1) e) (λ i. (sym made.linked_are i, sym made.spares_are i)) among
+
   module _ (caller : ℕ) (s : ListSeat) (first : IsFirst the_row.coded serial_meter list a.owners spares caller s) where
     abbrev pass : Pass
     pass = pass_of a.life s
@@ -56,30 +61,32 @@ module _ (a : ArenaState) (is : IsArena a) (callers : List ℕ) (spares : Owners
     owned_as : (e : Entry SerialState) (k : ℕ) → (hand (view s)).slot ≡ k → k ≡ e.slot → e.caller ≡ caller → IsOwned a.life a.policy e.slot e.caller e.part → IsOwned a.life a.policy (hand (view s)).slot (who (view s)) e.part
     owned_as e k p q w o = subst (λ (z : ℕ × ℕ). IsOwned a.life a.policy z.0 z.1 e.part) (λ i. (sym (p ∙ q) i, (w ∙ sym first.who_is) i)) o
 
-    linked_pass : (k : ℕ) (e : Entry SerialState) → get_elem? a.owners k ≡ some e → e.caller ≡ caller → IsPassOf shared pass
-    linked_pass k e at own = let tells = mine_tells (view s) e.slot (first.own k e at own) in record {
+    linked_pass : (k : ℕ) (e : Entry SerialState) → IsAmong (a.owners ++ spares) e → get_elem? a.owners k ≡ some e → e.caller ≡ caller → IsPassOf shared pass
+    linked_pass k e among at own = let tells = mine_tells (view s) e.slot (first.own k e at own) in record {
       of_list = first.of_list;
       life_is = refl;
       part = e.part;
       has_part = first.own_value k e at own;
       owned = owned_as e e.slot tells.1 refl own (is.owners.held.each k e at);
+      entry = (e, among_made e among, sym tells.1, own ∙ sym first.who_is);
       empty = λ none. absurd (none-some e.slot (sym none ∙ first.own k e at own));
     }
 
-    spare_pass : (k : ℕ) (e : Entry SerialState) → get_elem? spares k ≡ some e → IsOwned a.life a.policy e.slot e.caller e.part → e.caller ≡ caller → IsPassOf shared pass
-    spare_pass k e at o own = let tells = spare_tells (view s) e.slot (first.beside k e at own) in record {
+    spare_pass : (k : ℕ) (e : Entry SerialState) → IsAmong (a.owners ++ spares) e → get_elem? spares k ≡ some e → IsOwned a.life a.policy e.slot e.caller e.part → e.caller ≡ caller → IsPassOf shared pass
+    spare_pass k e among at o own = let tells = spare_tells (view s) e.slot (first.beside k e at own) in record {
       of_list = first.of_list;
       life_is = refl;
       part = e.part;
       has_part = first.beside_value k e at own;
       owned = owned_as e e.slot tells.1 refl own o;
+      entry = (e, among_made e among, sym tells.1, own ∙ sym first.who_is);
       empty = λ none. let same = are.empty k e at in record { no_placements = ap (λ (s : SerialState). s.placements) same; no_buffers = ap (λ (s : SerialState). s.kept) same };
     }
 
     pass_is : IsPassOf shared pass
     pass_is = let e = first.entry in let at = e.1 in ⊎_elim
-        (λ t. linked_pass at.0 e.0 t e.2)
-        (λ t. spare_pass t.0 e.0 t.2 (held.each at.0 e.0 at.1) e.2)
+        (λ t. linked_pass at.0 e.0 at t e.2)
+        (λ t. spare_pass t.0 e.0 at t.2 (held.each at.0 e.0 at.1) e.2)
         (at_append a.owners spares at.0 e.0 at.1)
 
     pub first_pass : IsFirstPass shared a.owners spares caller pass

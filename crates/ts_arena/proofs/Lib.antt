@@ -13,3 +13,4 @@ pub mod Entering
 pub mod Whole
 pub mod Frames
 pub mod SoleCalls
+pub mod Slots

@@ -7,7 +7,7 @@ use Rattle.arena_list.specs.declared.for_clauses.view.Hold.TheVariants.{Away}
 use Rattle.arena_list.specs.Rule.Views.{who, mine, out, shown}
 use Rattle.arena_list.specs.Calls.Seats.{view, IsSeatOf}
 use Rattle.ts_arena.specs.Arena.{IsKeyed}
-use Rattle.ts_arena.specs.Passes.{SharedState}
+use Rattle.ts_arena.specs.Passes.{SharedState, HasEntry}
 
 -- the shared arena, the caller's right in it, its slot, whether that was cached, and the serial arena
 pub record LeaseState : Type 0 where
@@ -21,6 +21,7 @@ pub record LeaseState : Type 0 where
 pub record IsLease (l : LeaseState) : Type 0 where
   pub of_list : IsSeatOf l.shared.list l.seat
   pub own : mine (view l.seat) ≡ Some l.slot
+  pub entry : HasEntry l.shared l.slot (who (view l.seat))
   pub taken : ℕ
   pub out_is : out (view l.seat) ≡ Away taken
   pub grown : taken ≤ used (places_of l.part)

@@ -1,5 +1,5 @@
 -- A shared arena and its passes, as their callers see them.
-use Rattle.std.specs.Prelude.{◌≡◌, ℕ, ◌^◌, ◌<◌, ◌≤◌, List, Option, Some, None, length, sum_by}
+use Rattle.std.specs.Prelude.{◌≡◌, ℕ, ◌^◌, ◌<◌, ◌≤◌, List, ◌++◌, Option, Some, None, length, map, sum_by}
 use mathlib.Core.Option.{some}
 use lib.ListN.{get_elem?}
 use Rattle.arena_block.specs.declared.policy.Policy.{Policy}
@@ -10,7 +10,7 @@ use Rattle.life_ids.specs.Cache.{CacheState}
 use Rattle.arena_list.specs.declared.entry.Entry.{Entry}
 use Rattle.arena_list.specs.declared.list.ArenaList.{ArenaList}
 use Rattle.arena_list.specs.declared.list.ListSeat.{ListSeat}
-use Rattle.arena_list.specs.Rule.Founded.{Meter, others_of}
+use Rattle.arena_list.specs.Rule.Founded.{Meter, Differ, slot, others_of}
 use Rattle.arena_list.specs.Marks.OfParts.{marks}
 use Rattle.arena_list.specs.Rule.Views.{hand, who, mine, shown}
 use Rattle.arena_list.specs.Calls.Outcomes.{HasSummed}
@@ -42,6 +42,14 @@ begun_with sh = (founding_of sh.list).linked.items
 abbrev pub resting : SharedState → Owners
 resting sh = wards_of sh.list
 
+-- the entries that the list was made with: of the owners, and a spare one of each caller that owned nothing
+abbrev pub entries_of : SharedState → Owners
+entries_of sh = (founding_of sh.list).linked.items ++ (founding_of sh.list).spare.items
+
+-- one of these entries has this slot and this caller
+abbrev pub HasEntry : SharedState → ℕ → ℕ → Type 0
+HasEntry sh at who = (e : Entry SerialState) × IsAmong (entries_of sh) e × (e.slot ≡ at) × (e.caller ≡ who)
+
 -- what the adopted regions use together
 abbrev pub adopted_used : SharedState → ℕ
 adopted_used sh = sum_by used_of sh.adopted
@@ -60,6 +68,10 @@ caller_of p = who (view p.seat)
 -- the caller's slot, once it has joined
 abbrev pub slot_of : Pass → Option ℕ
 slot_of p = mine (view p.seat)
+
+-- the caller's slot, in the list or beside it
+abbrev pub own_slot : Pass → ℕ
+own_slot p = (hand (view p.seat)).slot
 
 -- how many list steps it made
 abbrev pub steps_of : Pass → ℕ
@@ -83,7 +95,8 @@ pub record IsPassOf (sh : SharedState) (p : Pass) : Type 0 where
   pub life_is : p.life ≡ sh.life
   pub part : SerialState
   pub has_part : HasPart p part
-  pub owned : IsOwned sh.life sh.policy (hand (view p.seat)).slot (caller_of p) part
+  pub owned : IsOwned sh.life sh.policy (own_slot p) (caller_of p) part
+  pub entry : HasEntry sh (own_slot p) (caller_of p)
   -- a caller that hasn't joined has placed and kept nothing
   pub empty : slot_of p ≡ None → IsUnused part
 
@@ -100,6 +113,7 @@ pub record IsShared (sh : SharedState) (made used : ℕ) : Type 0 where
   pub born : 1 ≤ sh.life
   pub policy : IsValid sh.policy
   pub life_is : life_of sh.list ≡ sh.life
+  pub slots : Differ (map slot (entries_of sh))
   pub resting_are : (e : Entry SerialState) → IsAmong (resting sh) e → IsOwned sh.life sh.policy e.slot e.caller e.part
   pub adopted : AreAdopted sh.adopted
   pub made_is : made ≡ made_by sh

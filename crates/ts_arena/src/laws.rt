@@ -1,15 +1,20 @@
 //! What holds of every arena.
-ghost use Rattle.std.specs.Prelude.{◌≡◌, ℕ};
+ghost use Rattle.std.specs.Prelude.{◌≡◌, ◌≢◌, ℕ};
 ghost use Rattle.std.specs.FinMap as map;
 ghost use Rattle.serial_arena.specs.Serial.{SerialState, places_of, buffers_of, blocks_of};
 ghost use Rattle.ts_arena.specs.Arena.{ArenaState};
 ghost use Rattle.arena_mem.specs.declared.place.Place.{Place};
 ghost use Rattle.arena_mem.specs.declared.place.Buffer.{Buffer};
 ghost use Rattle.arena_mem.specs.Places.{Apart, IsLive, IsKept};
+ghost use Rattle.ts_arena.specs.declared.pass.Pass.{Pass};
+ghost use Rattle.ts_arena.specs.Passes.{caller_of, own_slot, IsPassOf};
+ghost use Rattle.ts_arena.specs.Leases.{caller_in};
 ghost use Rattle.ts_arena.specs.Places.{IsPartOf, IsPlaceOf};
 ghost use Rattle.ts_arena.specs.Sole.{arena_places, arena_buffers, arena_blocks, frame_of, KeepsAllElse};
 
 use crate::arena::Arena;
+use crate::lease::Lease;
+use crate::shared::Shared;
 
 /// A law: no two places of an arena share a byte, those of its owners and of its adopted regions alike.
 pub fn placements_lie_apart(arena: &Arena)
@@ -35,3 +40,20 @@ pub fn lookups_go_to_the_region(arena: &Arena)
 pub fn sole_use_keeps_all_else()
     ensures { (at : ℕ) (before after : ArenaState) → frame_of at after ≡ frame_of at before → KeepsAllElse at before after }
 {}
+
+/// A law: two passes of one shared arena with different callers have different slots, in the list or beside it.
+pub fn passes_have_slots_of_their_own(shared: &Shared)
+    ensures { (p q : Pass) → IsPassOf shared.now p → IsPassOf shared.now q → caller_of p ≢ caller_of q → own_slot p ≢ own_slot q }
+{
+    let _life = shared.life;
+}
+
+/// A law: while a lease is out no pass of another caller has its slot, and no lease of another caller has it.
+pub fn a_leased_slot_is_its_callers<'s, 't>(shared: &Shared, lease: &Lease<'s>, other: &Lease<'t>)
+    requires lease { lease.now.shared ≡ shared.now }
+    requires other { other.now.shared ≡ shared.now }
+    ensures passes { (p : Pass) → IsPassOf shared.now p → caller_of p ≢ caller_in lease.now → own_slot p ≢ lease.now.slot }
+    ensures leases { caller_in other.now ≢ caller_in lease.now → other.now.slot ≢ lease.now.slot }
+{
+    let _lives = (shared.life, lease.slot, other.slot);
+}
