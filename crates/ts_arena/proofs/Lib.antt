@@ -14,3 +14,4 @@ pub mod Whole
 pub mod Frames
 pub mod SoleCalls
 pub mod Slots
+pub mod Totals

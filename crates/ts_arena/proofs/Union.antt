@@ -15,7 +15,7 @@ use Rattle.arena_list.proofs.Words.Few.{at_map}
 use Rattle.arena_list.proofs.Words.Lists.{at_replaced}
 use Rattle.ts_arena.specs.Arena.{region}
 
-abbrev orelse : {V : Type 0} → Option V → Option V → Option V
+abbrev pub orelse : {V : Type 0} → Option V → Option V → Option V
 orelse (Some v) r = Some v
 orelse None r = r
 
@@ -31,12 +31,12 @@ none_if : {V : Type 0} (r : Option V) → ((v : V) → r ≡ Some v → ⊥) →
 none_if None f = refl
 none_if (Some v) f = absurd (f v refl)
 
-find_both : {K V : Type 0} (R : K → K → Ordering) (es fs : List (K × V)) (q : K) → find R q (es ++ fs) ≡ orelse (find R q es) (find R q fs)
+pub find_both : {K V : Type 0} (R : K → K → Ordering) (es fs : List (K × V)) (q : K) → find R q (es ++ fs) ≡ orelse (find R q es) (find R q fs)
 find_both R [] fs q = refl
 find_both R (e ∷ es) fs q = ap (cond (eq_by_cmp R q e.0) (Some e.1)) (find_both R es fs q) ∙ orelse_cond (eq_by_cmp R q e.0) e.1 (find R q es) (find R q fs)
 
 -- ---- lists of parts
-tail_differs : (x : ℕ) (xs : List ℕ) → Differ (x ∷ xs) → Differ xs
+pub tail_differs : (x : ℕ) (xs : List ℕ) → Differ (x ∷ xs) → Differ xs
 tail_differs x xs differ i j y a b = let e : suc i ≡ suc j = differ (suc i) (suc j) y a b in omega arith
 
 pub regions_set : (parts : List SerialState) (k : ℕ) (s t : SerialState) → get_elem? parts k ≡ some s → t.region ≡ s.region → map region (set parts k t) ≡ map region parts
@@ -49,11 +49,11 @@ module _ {K V : Type 0} {R : K → K → Ordering} (o : IsTotalOrder R) (same : 
   abbrev pub joined : List SerialState → FinMap R V
   joined parts = from_entries (flat_map (λ (s : SerialState). entries (map_of s)) parts)
 
-  abbrev in_parts : List SerialState → K → Option V
+  abbrev pub in_parts : List SerialState → K → Option V
   in_parts [] q = None
   in_parts (s ∷ ss) q = orelse (get (map_of s) q) (in_parts ss q)
 
-  found_in : (parts : List SerialState) (q : K) → find R q (flat_map (λ (s : SerialState). entries (map_of s)) parts) ≡ in_parts parts q
+  pub found_in : (parts : List SerialState) (q : K) → find R q (flat_map (λ (s : SerialState). entries (map_of s)) parts) ≡ in_parts parts q
   found_in [] q = refl
   found_in (s ∷ ss) q = find_both R (entries (map_of s)) (flat_map (λ (t : SerialState). entries (map_of t)) ss) q ∙ (λ i. orelse (sym (get-entries (map_of s) q) i) (found_in ss q i))
 
@@ -63,7 +63,7 @@ module _ {K V : Type 0} {R : K → K → Ordering} (o : IsTotalOrder R) (same : 
   get_other : (s : SerialState) (q : K) → name_of q ≢ s.region → get (map_of s) q ≡ None
   get_other s q other = none_if (get (map_of s) q) (λ v is. other (named s q v is))
 
-  in_none : (parts : List SerialState) (q : K) → ((k : ℕ) (s : SerialState) → get_elem? parts k ≡ some s → name_of q ≢ s.region) → in_parts parts q ≡ None
+  pub in_none : (parts : List SerialState) (q : K) → ((k : ℕ) (s : SerialState) → get_elem? parts k ≡ some s → name_of q ≢ s.region) → in_parts parts q ≡ None
   in_none [] q others = refl
   in_none (s ∷ ss) q others = ap (λ r. orelse r (in_parts ss q)) (get_other s q (others 0 s refl)) ∙ in_none ss q (λ k x at. others (suc k) x at)
 

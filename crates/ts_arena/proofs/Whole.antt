@@ -33,7 +33,7 @@ use Rattle.ts_arena.proofs.Spots.{at_or, or_at, at_set, index_of, at_spot, parts
 use Rattle.ts_arena.proofs.Union.{get_in, found_at, joined_insert, joined_same}
 
 -- ---- names
-place_named : (s : SerialState) (p : Place) (v : List ℕ) → fin.get (places_of s) p ≡ Some v → p.region ≡ s.region
+pub place_named : (s : SerialState) (p : Place) (v : List ℕ) → fin.get (places_of s) p ≡ Some v → p.region ≡ s.region
 place_named s p v is = let at = live_at s p v is in sym (ap (λ (x : Place × List ℕ). x.0.region) at.2)
 
 numbered_region : (r n : ℕ) (xs : List (List ℕ)) (i : ℕ) (d : Buffer × List ℕ) → i < length (numbered r n xs) → (get_or (numbered r n xs) i d).0.region ≡ r
@@ -44,7 +44,7 @@ numbered_region r n (x ∷ xs) (suc i) d h = numbered_region r (suc n) xs i d (o
 no_buffer : Buffer × List ℕ
 no_buffer = (record { region = 0; number = 0 }, [])
 
-buffer_named : (s : SerialState) (b : Buffer) (v : List ℕ) → fin.get (buffers_of s) b ≡ Some v → b.region ≡ s.region
+pub buffer_named : (s : SerialState) (b : Buffer) (v : List ℕ) → fin.get (buffers_of s) b ≡ Some v → b.region ≡ s.region
 buffer_named s b v is = let at = stands buffers_total exact_buffers no_buffer (numbered s.region 0 s.kept) b v is in
     ap (λ (x : Buffer × List ℕ). x.0.region) (sym at.2) ∙ numbered_region s.region 0 s.kept at.0 no_buffer at.1
 

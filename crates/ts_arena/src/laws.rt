@@ -2,10 +2,10 @@
 ghost use Rattle.std.specs.Prelude.{◌≡◌, ◌≢◌, ℕ};
 ghost use Rattle.std.specs.FinMap as map;
 ghost use Rattle.serial_arena.specs.Serial.{SerialState, places_of, buffers_of, blocks_of};
-ghost use Rattle.ts_arena.specs.Arena.{ArenaState};
+ghost use Rattle.ts_arena.specs.Arena.{ArenaState, arena_used, arena_registered};
 ghost use Rattle.arena_mem.specs.declared.place.Place.{Place};
 ghost use Rattle.arena_mem.specs.declared.place.Buffer.{Buffer};
-ghost use Rattle.arena_mem.specs.Places.{Apart, IsLive, IsKept};
+ghost use Rattle.arena_mem.specs.Places.{Apart, IsLive, IsKept, used};
 ghost use Rattle.ts_arena.specs.declared.pass.Pass.{Pass};
 ghost use Rattle.ts_arena.specs.Passes.{caller_of, own_slot, IsPassOf};
 ghost use Rattle.ts_arena.specs.Leases.{caller_in};
@@ -31,6 +31,15 @@ pub fn lookups_go_to_the_region(arena: &Arena)
     ensures blocks { (s : SerialState) → IsPartOf arena.now s → arena_blocks arena.now s.region ≡ blocks_of s s.region }
     ensures live { (p : Place) → IsLive (arena_places arena.now) p → (s : SerialState) × IsPartOf arena.now s × (s.region ≡ p.region) }
     ensures kept { (b : Buffer) → IsKept (arena_buffers arena.now) b → (s : SerialState) × IsPartOf arena.now s × (s.region ≡ b.region) }
+{
+    let _life = arena.life;
+}
+
+/// A law: the sums of an arena are those of its map. What it uses is the sum of the lengths of its live places, in
+/// bytes, and what it has registered is the number of its kept byte strings.
+pub fn sums_are_those_of_the_map(arena: &Arena)
+    ensures used { used (arena_places arena.now) ≡ arena_used arena.now }
+    ensures registered { map.len (arena_buffers arena.now) ≡ arena_registered arena.now }
 {
     let _life = arena.life;
 }
