@@ -22,6 +22,7 @@ use Rattle.arena_list.proofs.Calls.SeatFacts.{mine_tells}
 use Rattle.ts_arena.specs.declared.pass.Pass.{Pass}
 use Rattle.ts_arena.specs.Arena.{ArenaState, IsArena, IsOwned, AreHeld}
 use Rattle.ts_arena.specs.Sharing.{Owners, AreSpares}
+use Rattle.ts_arena.proofs.Slots.{has_entry}
 use Rattle.ts_arena.specs.Passes.{SharedState, serial_meter, pass_of, IsPassOf, IsShared, IsSharedFrom, IsFirstPass, AreFirstPasses, adopted_used, entries_of}
 
 -- a slot that isn't in the list is a spare
@@ -68,7 +69,7 @@ module _ (a : ArenaState) (is : IsArena a) (callers : List ℕ) (spares : Owners
       part = e.part;
       has_part = first.own_value k e at own;
       owned = owned_as e e.slot tells.1 refl own (is.owners.held.each k e at);
-      entry = (e, among_made e among, sym tells.1, own ∙ sym first.who_is);
+      entry = has_entry shared e (among_made e among) _ _ (sym tells.1) (own ∙ sym first.who_is);
       empty = λ none. absurd (none-some e.slot (sym none ∙ first.own k e at own));
     }
 
@@ -79,7 +80,7 @@ module _ (a : ArenaState) (is : IsArena a) (callers : List ℕ) (spares : Owners
       part = e.part;
       has_part = first.beside_value k e at own;
       owned = owned_as e e.slot tells.1 refl own o;
-      entry = (e, among_made e among, sym tells.1, own ∙ sym first.who_is);
+      entry = has_entry shared e (among_made e among) _ _ (sym tells.1) (own ∙ sym first.who_is);
       empty = λ none. let same = are.empty k e at in record { no_placements = ap (λ (s : SerialState). s.placements) same; no_buffers = ap (λ (s : SerialState). s.kept) same };
     }
 

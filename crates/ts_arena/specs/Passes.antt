@@ -47,7 +47,7 @@ abbrev pub entries_of : SharedState → Owners
 entries_of sh = (founding_of sh.list).linked.items ++ (founding_of sh.list).spare.items
 
 -- one of these entries has this slot and this caller
-abbrev pub HasEntry : SharedState → ℕ → ℕ → Type 0
+unfoldable pub HasEntry : SharedState → ℕ → ℕ → Type 0
 HasEntry sh at who = (e : Entry SerialState) × IsAmong (entries_of sh) e × (e.slot ≡ at) × (e.caller ≡ who)
 
 -- what the adopted regions use together

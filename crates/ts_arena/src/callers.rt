@@ -329,3 +329,44 @@ pub(crate) fn place_alone(arena: &mut Arena, caller: u32, bytes: u32) -> Result<
         Err(fault) => Err(GaveUp::Sole(fault)),
     }
 }
+
+/// Keeps a byte string and a copy of it in any memory: whether both are read back as they were.
+fn keep_in<M: Memory>(mem: &mut M, text: &[u8], alloc: Global) -> Result<bool, GaveUp>
+    ensures key { M.key mem.new ≡ M.key mem.old }
+{
+    let Ok(bytes) = text.to_vec(alloc) else {
+        return Err(GaveUp::Memory(MemFault::NoMemory));
+    };
+    let Ok(kept) = mem.keep(bytes) else {
+        return Err(GaveUp::Memory(MemFault::NoMemory));
+    };
+    let Ok(copy) = mem.keep_copy(text) else {
+        return Err(GaveUp::Memory(MemFault::NoMemory));
+    };
+    Ok(mem.kept(kept) == text && mem.kept(copy) == text)
+}
+
+/// Enters, keeps a byte string and a copy of it, and leaves: whether both are read back.
+pub(crate) fn keep_leased(shared: &Shared, pass: Pass, text: &[u8], alloc: Global) -> (Pass, bool)
+    requires made { IsPassOf shared.now pass }
+    ensures made { IsPassOf shared.now result.0 }
+{
+    let _ = shared.life();
+    let mut lease = shared.enter(pass, ThreadCache::empty());
+    let are_kept = matches!(keep_in(&mut lease, text, alloc), Ok(true));
+    let (pass, _) = lease.leave();
+    (pass, are_kept)
+}
+
+/// The same of a caller that enters alone.
+pub(crate) fn keep_alone(
+    arena: &mut Arena,
+    caller: u32,
+    text: &[u8],
+    alloc: Global,
+) -> Result<bool, GaveUp> {
+    match arena.enter_sole(caller) {
+        Ok(mut sole) => keep_in(&mut sole, text, alloc),
+        Err(fault) => Err(GaveUp::Sole(fault)),
+    }
+}

@@ -2,8 +2,9 @@
 ghost use Rattle.std.specs.Prelude.{◌≡◌, ◌≤◌, []};
 
 use crate::callers::{
-    adopt_first, copy_alone, enter_over_two_lives, fill_blocks, place_alone, put_pass, settle_one,
-    settle_with, settle_with_foreign, share_among, share_with_one, take_pass, used_by_last, visit,
+    adopt_first, copy_alone, enter_over_two_lives, fill_blocks, keep_alone, keep_leased,
+    place_alone, put_pass, settle_one, settle_with, settle_with_foreign, share_among,
+    share_with_one, take_pass, used_by_last, visit,
 };
 use crate::workers::{ROUNDS, seated, stood_up, visit_with_help, work_all};
 use crate::{Arena, LifeRecord, SettleFault, ShareFault, SoleFault};
@@ -63,6 +64,52 @@ fn a_cache_serves_one_life_of_two(rt: HostRuntime) -> Result<(), Fail> {
     )?;
     assert_eq!(rt; (shared.life(), pass.life(), pass.caller()), (2, 2, 4));
     assert_eq!(rt; (cache.life(), cache.slot(), ids.left()), (2, 0, 254));
+    Ok(())
+}
+
+#[test]
+fn a_cache_is_of_no_use_after_a_reset(rt: HostRuntime) -> Result<(), Fail> {
+    let mut ids = IdSource::new(rt.alloc(), 1)?;
+    let life = ids.draw()?;
+    let (shared, pass) = share_with_one(Arena::new(rt.alloc(), Policy::profile(), life))?;
+    let (pass, cache, is_placed, cached) = visit(&shared, pass, ThreadCache::empty(), 32);
+    assert_eq!(rt; (is_placed, cached), (true, false));
+    let mut arena = settle_one(shared, pass, rt.alloc())?;
+    arena.reset(&mut ids, &mut SilentWatch)?;
+    let (shared, pass) = share_with_one(arena)?;
+    let fits = pass.fits(&cache);
+    assert!(rt; fits);
+    if fits {
+        let (pass, cache, is_placed, cached) = visit(&shared, pass, cache, 32);
+        assert_eq!(rt; (is_placed, cached), (true, false));
+        let (_, _, is_placed, cached) = visit(&shared, pass, cache, 32);
+        assert_eq!(rt; (is_placed, cached), (true, true));
+    }
+    Ok(())
+}
+
+#[test]
+fn byte_strings_are_kept_in_a_lease_and_alone(rt: HostRuntime) -> Result<(), Fail> {
+    let mut watch = ListWatch::with_room(rt.alloc(), 8)?;
+    let (shared, pass) = share_with_one(new_arena(rt.alloc(), 5))?;
+    let (pass, are_kept) = keep_leased(&shared, pass, b"kept in a lease", rt.alloc());
+    assert!(rt; are_kept);
+    let mut arena = settle_one(shared, pass, rt.alloc())?;
+    assert_eq!(rt; (arena.owners(), arena.registered()), (1, 2));
+    assert!(rt; keep_alone(&mut arena, 7, b"kept by one alone", rt.alloc())?);
+    assert!(rt; keep_alone(&mut arena, 4, b"", rt.alloc())?);
+    assert_eq!(rt; (arena.owners(), arena.registered()), (2, 6));
+    let record = arena.end(&mut watch);
+    assert_eq!(rt; (record.registered, record.cleaned), (6, 6));
+    let wanted = [
+        (5, 0, 3),
+        (5, 0, 2),
+        (5, 0, 1),
+        (5, 0, 0),
+        (5, 1, 1),
+        (5, 1, 0),
+    ];
+    assert_eq!(rt; watch.told(), wanted.as_slice());
     Ok(())
 }
 
