@@ -26,4 +26,8 @@ pub use stop::ParseFault;
 #[cfg(test)]
 mod fault_tests;
 #[cfg(test)]
+mod hand_made;
+#[cfg(test)]
+mod kind_tests;
+#[cfg(test)]
 mod parse_tests;
