@@ -1,0 +1,14 @@
+//! Merging messages, over any memory, and how large they are.
+//!
+//! It stands on the messages of `dyn_message`, beside what reads and writes them. Its contract: `units` and `depth` are
+//! exactly those of the tree that a message stands for. Neither takes memory or changes the message.
+#![tactic(auto)]
+
+mod extent;
+mod measure;
+mod walk;
+
+pub use measure::{depth, units};
+
+#[cfg(test)]
+mod tests;
