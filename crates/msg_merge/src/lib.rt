@@ -5,9 +5,11 @@
 #![tactic(auto)]
 
 mod extent;
+mod laws;
 mod measure;
 mod walk;
 
+pub use laws::walks_merge;
 pub use measure::{depth, units};
 
 #[cfg(test)]
