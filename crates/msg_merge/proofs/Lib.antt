@@ -1,3 +1,5 @@
+mod Costs
 mod Counts
 mod Sample
+mod Standing
 mod Steps

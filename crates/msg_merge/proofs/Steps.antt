@@ -232,7 +232,7 @@ or_after : (m r : Bool) → r ≡ ((m && false) || r)
 or_after true r = refl
 or_after false r = refl
 
-or_right : (p r : Bool) → r ≡ true → (p || r) ≡ true
+pub or_right : (p r : Bool) → r ≡ true → (p || r) ≡ true
 or_right true r e = refl
 or_right false r e = e
 
@@ -244,7 +244,7 @@ and_first true b e = refl
 and_first false b e = e
 
 -- no other member that is set comes later
-set_alone : (fields : List FieldType) (rest : Holdings) (first : Card) (held : Holding) (oneof : ℕ) → IsSetAlone first held fields rest → (is_member oneof first && is_set held) ≡ true → sets_member oneof fields rest ≡ true → ⊥
+pub set_alone : (fields : List FieldType) (rest : Holdings) (first : Card) (held : Holding) (oneof : ℕ) → IsSetAlone first held fields rest → (is_member oneof first && is_set held) ≡ true → sets_member oneof fields rest ≡ true → ⊥
 set_alone fields rest cards.Implicit held oneof alone is set = true≢false (sym is)
 set_alone fields rest cards.Explicit held oneof alone is set = true≢false (sym is)
 set_alone fields rest (cards.Repeated packed) held oneof alone is set = true≢false (sym is)
@@ -292,7 +292,7 @@ module _ (schema : Schema) (type_no : ℕ) where
         pick true = tt
         pick false = h
 
-    ours_stay : (t t' : Shape) → ((other : FieldType) → InType schema type_no other → field.number ≢ other.number → at schema type_no other t' ≡ cond (replaces field.card held other.card) Nothing (at schema type_no other t))
+    pub ours_stay : (t t' : Shape) → ((other : FieldType) → InType schema type_no other → field.number ≢ other.number → at schema type_no other t' ≡ cond (replaces field.card held other.card) Nothing (at schema type_no other t))
         → (gs : List FieldType) → AreKnown gs → NoneHas field.number gs → AreOurs gs t → AreOurs gs t'
     ours_stay t t' step [] known differ ours = tt
     ours_stay t t' step (g ∷ gs) known differ ours =
@@ -332,7 +332,7 @@ module _ (schema : Schema) (type_no : ℕ) where
         pick true is x (Many values) ours here set = absurd here
         pick true is x (One value) ours here set = absurd (set_alone fields rest field.card held oneof alone is (set refl))
 
-    member_set : (g : FieldType) (c : Card) (theirs : Holding) (oneof : ℕ) (later : Bool) → g.card ≡ c → c ≡ cards.Member oneof → is_set theirs ≡ true → ((is_member oneof g.card && is_set theirs) || later) ≡ true
+    pub member_set : (g : FieldType) (c : Card) (theirs : Holding) (oneof : ℕ) (later : Bool) → g.card ≡ c → c ≡ cards.Member oneof → is_set theirs ≡ true → ((is_member oneof g.card && is_set theirs) || later) ≡ true
     member_set g c theirs oneof later is member set =
         ap (λ (b : Bool). (is_member oneof g.card && b) || later) set
         ∙ or_left (is_member oneof g.card) later (ap (is_member oneof) (is ∙ member) ∙ eq-eqb oneof oneof refl)
@@ -375,7 +375,7 @@ module _ (schema : Schema) (type_no : ℕ) where
 -- THE WHOLE
 
 -- each of these fields holds this, as all of them are read by number
-abbrev Aligned : List FieldType → Holdings → List FieldType → Holdings → Type 0
+abbrev pub Aligned : List FieldType → Holdings → List FieldType → Holdings → Type 0
 Aligned all whole [] NoFields = Unit {0}
 Aligned all whole [] (FieldAnd held rest) = ⊥
 Aligned all whole (field ∷ fields) NoFields = ⊥
@@ -391,7 +391,7 @@ aligned_more first held all whole (field ∷ fields) (FieldAnd x more) differ h 
 one_less : (a b : ℕ) → suc a ≡ suc b → a ≡ b
 one_less a b e = omega (arith, e)
 
-aligned : (fields : List FieldType) (held : Holdings) → Differ fields → IsFull fields held → Aligned fields held fields held
+pub aligned : (fields : List FieldType) (held : Holdings) → Differ fields → IsFull fields held → Aligned fields held fields held
 aligned [] NoFields differ full = tt
 aligned [] (FieldAnd x rest) differ full = absurd (omega (arith, full))
 aligned (field ∷ fields) NoFields differ full = absurd (omega (arith, full))
@@ -406,12 +406,12 @@ found_more first all [] differ known = tt
 found_more first all (field ∷ fields) differ known =
     (ap (λ (b : Bool). cond b (Some first) (field_among all field.number)) (ne_eqb first.number field.number differ.0) ∙ known.0, found_more first all fields differ.1 known.1)
 
-found : (fields : List FieldType) → Differ fields → AllByRecursion (λ (field : FieldType). field_among fields field.number ≡ Some field) fields
+pub found : (fields : List FieldType) → Differ fields → AllByRecursion (λ (field : FieldType). field_among fields field.number ≡ Some field) fields
 found [] differ = tt
 found (field ∷ fields) differ =
     (ap (λ (b : Bool). cond b (Some field) (field_among fields field.number)) (eq-eqb field.number field.number refl), found_more field fields fields differ.0 (found fields differ.1))
 
-full_held : (fields : List FieldType) (held : Holdings) → AreHeldAs fields held → IsFull fields held
+pub full_held : (fields : List FieldType) (held : Holdings) → AreHeldAs fields held → IsFull fields held
 full_held [] NoFields fit = refl
 full_held [] (FieldAnd x rest) fit = absurd fit
 full_held (field ∷ fields) NoFields fit = absurd fit
@@ -422,7 +422,7 @@ pieces_are [] (Message held before) = ap (λ more. Message held more) (sym (appe
 pieces_are (piece ∷ pieces) t = pieces_are pieces (with_piece piece t) ∙ ap (λ more. Message (fields_held t) more) (append_assoc (unknown_held t) (piece ∷ []) pieces)
 
 module _ (schema : Schema) (type_no : ℕ) where
-  ours_of : (t : Shape) (fields : List FieldType) (held : Holdings) → Aligned (fields_of schema type_no) (fields_held t) fields held → AreHeldAs fields held → AreOurs schema type_no fields t
+  pub ours_of : (t : Shape) (fields : List FieldType) (held : Holdings) → Aligned (fields_of schema type_no) (fields_held t) fields held → AreHeldAs fields held → AreOurs schema type_no fields t
   ours_of t [] NoFields h fit = tt
   ours_of t [] (FieldAnd x rest) h fit = absurd h
   ours_of t (field ∷ fields) NoFields h fit = absurd h

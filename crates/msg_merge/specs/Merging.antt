@@ -1,5 +1,5 @@
 -- Merging as a walk does it: field by field, a list element by element, and then piece by piece.
-use Rattle.std.specs.Prelude.{ℕ, ⊤, false, List, [], ◌∷◌, ◌++◌, IsFalse}
+use Rattle.std.specs.Prelude.{◌+◌, length, ℕ, ⊤, false, List, [], ◌∷◌, ◌++◌, IsFalse}
 use Rattle.pb_schema.specs.declared.kind.Card.{Card}
 use Rattle.pb_schema.specs.declared.kind.Card.TheVariants as cards
 use Rattle.pb_schema.specs.declared.kind.FieldType.{FieldType}
@@ -9,7 +9,10 @@ use Rattle.pb_schema.specs.HeldAt.{held_at, with_held}
 use Rattle.pb_schema.specs.Merge.{held_merged, sets_member}
 use Rattle.pb_schema.specs.Tree.{HeldWith, Nothing, One, Many, Shape, Message, ValueListWith, NoValues, ValueAnd, HeldListWith, NoFields, FieldAnd}
 use Rattle.dyn_message.specs.Lists.{with_appended}
-use Rattle.dyn_message.specs.Unknown.{with_piece}
+use Rattle.pb_schema.specs.Meter.{Meter}
+use Rattle.pb_schema.specs.MergeCost.{held_merge_cost}
+use Rattle.pb_schema.specs.ParseCost.{pieces_cost}
+use Rattle.dyn_message.specs.Unknown.{pieces_of, with_piece}
 
 -- the values of a list, each behind those that are there
 abbrev pub values_into : Schema → ℕ → ℕ → ValueListWith (List (List ℕ)) → Shape → Shape
@@ -39,6 +42,18 @@ pieces_into (piece ∷ pieces) t = pieces_into pieces (with_piece piece t)
 abbrev pub message_into : Schema → ℕ → Shape → Shape → Shape
 message_into schema type_no t (Message theirs pieces) =
     pieces_into pieces (fields_into schema type_no (fields_of schema type_no) theirs t)
+
+-- what that counts by a meter, step by step
+abbrev pub fields_walk_cost : Meter → Schema → ℕ → List FieldType → HeldListWith (List (List ℕ)) → Shape → ℕ
+fields_walk_cost meter schema type_no (field ∷ fields) (FieldAnd held rest) t =
+    held_merge_cost meter schema field (held_at schema type_no field.number t) held
+    + fields_walk_cost meter schema type_no fields rest (held_into schema type_no field held t)
+fields_walk_cost meter schema type_no _ _ t = 0
+
+abbrev pub walk_cost : Meter → Schema → ℕ → Shape → Shape → ℕ
+walk_cost meter schema type_no t (Message theirs pieces) =
+    fields_walk_cost meter schema type_no (fields_of schema type_no) theirs t
+    + pieces_cost meter (length (pieces_of t)) pieces
 
 -- WHAT IT ASKS OF THE MESSAGES
 

@@ -9,7 +9,7 @@ mod laws;
 mod measure;
 mod walk;
 
-pub use laws::walks_merge;
+pub use laws::{standing_messages_hold_by_cards, walks_cost_what_merges_cost, walks_merge};
 pub use measure::{depth, units};
 
 #[cfg(test)]
