@@ -1,3 +1,4 @@
+mod Chain
 mod Costs
 mod Counts
 mod Sample

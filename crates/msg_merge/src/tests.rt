@@ -6,8 +6,8 @@ ghost use Rattle.msg_merge.specs.Extents.{IsBounded, IsCountable};
 use crate::{depth, units};
 use arena_mem::{MemFault, Memory, PlainMemory};
 use dyn_message::{
-    MsgRef, append_scalar, append_unknown, count, create, make_sub, set_bytes, set_scalar,
-    unknown_count,
+    MsgRef, append_scalar, append_unknown, count, create, link_sub, make_sub, set_bytes,
+    set_scalar, unknown_count,
 };
 use msg_layout::layouts;
 use msg_layout::tables::Layouts;
@@ -50,5 +50,32 @@ fn units_and_depth_are_counted(rt: HostRuntime) -> Result<(), Fail> {
     let kept = sample(&mut mem, &types, b"as many bytes as are kept")?;
     assert_eq!(rt; units(&mem, &types, kept), 34);
     assert_eq!(rt; depth(&mem, &types, kept), 1);
+    Ok(())
+}
+
+// Nodes, each linked in the next one, so that messages nest so many levels deep.
+fn chain<M: Memory>(mem: &mut M, types: &Layouts, levels: u32) -> Result<MsgRef, MemFault>
+    requires schema { types.now ≡ builtin_schema }
+    ensures { IfOk result (λ msg. IsBounded types.now (M.places mem.new) (M.buffers mem.new) msg) }
+{
+    let mut top = create(mem, types, 1)?;
+    let mut i = 0;
+    'levels: while i < levels {
+        let parent = create(mem, types, 1)?;
+        link_sub(mem, types, parent, 6, top);
+        top = parent;
+        i += 1;
+    }
+    Ok(top)
+}
+
+#[test]
+fn levels_are_counted(rt: HostRuntime) -> Result<(), Fail> {
+    let types = layouts(rt.alloc(), builtin(rt.alloc())?)?;
+    let mut mem = PlainMemory::new(rt.alloc());
+    for levels in [0, 1, 99] {
+        let top = chain(&mut mem, &types, levels)?;
+        assert_eq!(rt; depth(&mem, &types, top), levels);
+    }
     Ok(())
 }
