@@ -1,6 +1,7 @@
 mod Chain
 mod Costs
 mod Counts
+mod Listed
 mod Sample
 mod Standing
 mod Steps

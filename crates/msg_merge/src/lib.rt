@@ -6,6 +6,7 @@
 
 mod extent;
 mod laws;
+mod lists;
 mod measure;
 mod walk;
 
