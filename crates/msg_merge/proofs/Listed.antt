@@ -1,18 +1,18 @@
 -- A list that grows by the elements of another one, one by one.
-use Rattle.std.proofs.Common.{◌≡◌, ◌+◌, ℕ, zero, suc, List, length, take, drop, Some, refl, sym, ap, ◌∙◌, subst, arith}
+use Rattle.std.proofs.Common.{◌≡◌, ◌+◌, ◌^◌, ◌<◌, ℕ, zero, suc, List, length, take, drop, Some, refl, sym, ap, ◌∙◌, subst, arith}
 use Rattle.std.specs.Prelude.{slice_get, IsSome}
 use Rattle.std.proofs.lemmas.Option.{same_Some}
 use Rattle.arena_mem.specs.Places.{Places, Buffers}
 use Rattle.pb_schema.specs.declared.kind.FieldType.{FieldType}
 use Rattle.pb_schema.specs.declared.schema.Schema.{Schema}
-use Rattle.pb_schema.specs.Fitted.{IsPatternOf}
+use Rattle.pb_schema.specs.Fitted.{IsPatternOf, IsStringOf}
 use Rattle.pb_schema.specs.HeldAt.{field_at, held_at}
 use Rattle.pb_schema.specs.Kinds.{ValueType, Scalar, Characters, Octets, Nested, value_type_of, slot_of}
 use Rattle.pb_schema.specs.Lawful.{Lawful}
 use Rattle.pb_schema.specs.Merge.{joined}
 use Rattle.pb_schema.specs.Meter.{array_bytes}
 use Rattle.pb_schema.specs.Put.{values_held}
-use Rattle.pb_schema.specs.Tree.{ValueWith, Number, Many, Shape, ValueListWith, NoValues, ValueAnd, values_in_list}
+use Rattle.pb_schema.specs.Tree.{ValueWith, Number, Bytes, Many, Shape, ValueListWith, NoValues, ValueAnd, values_in_list}
 use Rattle.pb_schema.proofs.HeldLaws.{get_after_set}
 use Rattle.pb_schema.proofs.MeterLaws.{placed_in_parts}
 use Rattle.dyn_message.specs.declared.msg_ref.MsgRef.{MsgRef}
@@ -28,7 +28,7 @@ use Rattle.dyn_message.proofs.Opening.{record_is}
 use Rattle.msg_layout.specs.Layout.{layout_of}
 use Rattle.pb_parse.proofs.Memories.{all_entries, entry_found, stays, then_stands}
 use Rattle.pb_write.proofs.Parts.{values_drop}
-use Rattle.msg_merge.specs.Merging.{values_into}
+use Rattle.msg_merge.specs.Merging.{strings_cost, values_into}
 use Rattle.msg_merge.proofs.Counts.{value_at_index}
 
 -- COUNTING
@@ -119,3 +119,43 @@ grown_once size c i shape was mid new count before after =
     let parts = (placed_in_parts (λ type_no. 0)).parts size c (c + i) (c + (i + 1)) (omega arith) (omega arith) in
     let one : array_bytes size shape (shape + 1) ≡ array_bytes size (c + i) (c + (i + 1)) = ap (λ n. array_bytes size n (n + 1)) count ∙ ap (array_bytes size (c + i)) {x = c + i + 1} {y = c + (i + 1)} (omega arith) in
     omega (arith, before, after, parts, one)
+
+-- TEXTS AND BYTES
+
+first_string : (schema : Schema) (places : Places) (buffers : Buffers) (type : ValueType) (slot : List ℕ) (value : ValueWith (List (List ℕ))) (own : List Foot) (s : List ℕ) → value ≡ Bytes s → ValueStands schema places buffers type slot value own → IsStringOf type s × (length s < 2 ^ 31)
+first_string schema places buffers type slot value own s is h = let v = subst (λ v. ValueStands schema places buffers type slot v own) is h in (v.kind, v.short)
+
+strings : (schema : Schema) (places : Places) (buffers : Buffers) (type : ValueType) (bytes : List ℕ) (values : ValueListWith (List (List ℕ))) (feet : List Foot) (i : ℕ) (s : List ℕ) → ValuesStand schema places buffers type bytes values feet → slice_get (values_in_list values) i ≡ Some (Bytes s) → IsStringOf type s × (length s < 2 ^ 31)
+strings schema places buffers type bytes NoValues feet zero s stand found = absurd cc
+strings schema places buffers type bytes NoValues feet (suc i) s stand found = absurd cc
+strings schema places buffers type bytes (ValueAnd value values) feet zero s stand found = first_string schema places buffers type (take (slot_of type) bytes) value stand.own s (same_Some value (Bytes s) found) stand.first
+strings schema places buffers type bytes (ValueAnd value values) feet (suc i) s stand found = strings schema places buffers type (drop (slot_of type) bytes) values stand.rest i s stand.second found
+
+array_strings : {size : ℕ} (schema : Schema) (places : Places) (buffers : Buffers) (type : ValueType) (values : ValueListWith (List (List ℕ))) (slot : List ℕ) (feet : List Foot) (i : ℕ) (s : List ℕ) → HoldsArray (λ elements behind. ValuesStand schema places buffers type elements values behind) places size (length (values_in_list values)) slot feet
+    → slice_get (values_in_list values) i ≡ Some (Bytes s) → IsStringOf type s × (length s < 2 ^ 31)
+array_strings schema places buffers type NoValues slot feet zero s (NoElements none zeros are) found = absurd cc
+array_strings schema places buffers type NoValues slot feet (suc i) s (NoElements none zeros are) found = absurd cc
+array_strings schema places buffers type (ValueAnd value values) slot feet i s (NoElements none zeros are) found = absurd (omega (arith, none))
+array_strings schema places buffers type values slot feet i s (Elements a) found = strings schema places buffers type a.bytes values a.behind i s a.elements found
+
+pub element_string : (schema : Schema) → Lawful schema → (places : Places) (buffers : Buffers) (msg : MsgRef) (number : ℕ) (field : FieldType) → field_at schema msg.type_no number ≡ Some field → IsList field.card
+    → (t : Shape) (feet : List Foot) → Stands schema places buffers msg t feet → (i : ℕ) (s : List ℕ) → slice_get (elements_at schema msg.type_no number t) i ≡ Some (Bytes s) → IsStringOf (value_type_of field.kind) s × (length s < 2 ^ 31)
+element_string schema lawful places buffers msg number field found list t feet st i s is =
+    let e = entry_found schema msg.type_no number field found in
+    let r = record_is schema places buffers msg t feet st in
+    let o = open_list schema lawful places buffers msg number e.0 r.bytes e.1 (found_number (layout_of schema msg.type_no).entries number e.0 e.1) (subst (λ (f : FieldType). IsList f.card) (sym e.2) list) r.there t feet st in
+    subst (λ (f : FieldType). IsStringOf (value_type_of f.kind) s × (length s < 2 ^ 31)) e.2
+    (array_strings schema places buffers (value_type_of e.0.field.kind) o.values _ o.own i s o.holds (ap (λ vs. slice_get vs i) (sym o.elements) ∙ is))
+
+-- what is left counts one less
+pub string_left : (bytes : ℕ → ℕ) (values : ValueListWith (List (List ℕ))) (i next : ℕ) → next ≡ suc i → (s : List ℕ) → slice_get (values_in_list values) i ≡ Some (Bytes s) → strings_cost bytes (values_drop i values) ≡ bytes (length s) + strings_cost bytes (values_drop next values)
+string_left bytes values i next after s found = ap (strings_cost bytes) (value_at_index values i (Bytes s) found) ∙ ap (λ n. bytes (length s) + strings_cost bytes (values_drop n values)) (sym after)
+
+pub string_grown : (c i shape one left later all was mid new : ℕ) → shape ≡ c + i → left ≡ one + later → mid + left ≡ was + array_bytes 24 c (c + i) + all → new ≡ mid + one + array_bytes 24 shape (shape + 1) → new + later ≡ was + array_bytes 24 c (c + (i + 1)) + all
+string_grown c i shape one left later all was mid new count less before after =
+    let parts = (placed_in_parts (λ type_no. 0)).parts 24 c (c + i) (c + (i + 1)) (omega arith) (omega arith) in
+    let same : array_bytes 24 shape (shape + 1) ≡ array_bytes 24 (c + i) (c + (i + 1)) = ap (λ n. array_bytes 24 n (n + 1)) count ∙ ap (array_bytes 24 (c + i)) {x = c + i + 1} {y = c + (i + 1)} (omega arith) in
+    omega (arith, less, before, after, parts, same)
+
+pub kept_more : (one left later all mid new was : ℕ) → left ≡ one + later → mid + left ≡ was + all → new ≡ mid + one → new + later ≡ was + all
+kept_more one left later all mid new was less before after = omega (arith, less, before, after)

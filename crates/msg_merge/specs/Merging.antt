@@ -7,7 +7,7 @@ use Rattle.pb_schema.specs.declared.schema.Schema.{Schema}
 use Rattle.pb_schema.specs.Fits.{fields_of}
 use Rattle.pb_schema.specs.HeldAt.{held_at, with_held}
 use Rattle.pb_schema.specs.Merge.{held_merged, sets_member}
-use Rattle.pb_schema.specs.Tree.{HeldWith, Nothing, One, Many, Shape, Message, ValueListWith, NoValues, ValueAnd, HeldListWith, NoFields, FieldAnd}
+use Rattle.pb_schema.specs.Tree.{Bytes, HeldWith, Nothing, One, Many, Shape, Message, ValueListWith, NoValues, ValueAnd, HeldListWith, NoFields, FieldAnd}
 use Rattle.dyn_message.specs.Lists.{with_appended}
 use Rattle.pb_schema.specs.Meter.{Meter}
 use Rattle.pb_schema.specs.MergeCost.{held_merge_cost}
@@ -54,6 +54,12 @@ abbrev pub walk_cost : Meter → Schema → ℕ → Shape → Shape → ℕ
 walk_cost meter schema type_no t (Message theirs pieces) =
     fields_walk_cost meter schema type_no (fields_of schema type_no) theirs t
     + pieces_cost meter (length (pieces_of t)) pieces
+
+-- what the texts or bytes of a list count, by what each counts by its length
+abbrev pub strings_cost : (ℕ → ℕ) → ValueListWith (List (List ℕ)) → ℕ
+strings_cost bytes NoValues = 0
+strings_cost bytes (ValueAnd (Bytes s) values) = bytes (length s) + strings_cost bytes values
+strings_cost bytes (ValueAnd _ values) = strings_cost bytes values
 
 -- WHAT IT ASKS OF THE MESSAGES
 
