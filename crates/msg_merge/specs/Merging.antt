@@ -61,6 +61,11 @@ strings_cost bytes NoValues = 0
 strings_cost bytes (ValueAnd (Bytes s) values) = bytes (length s) + strings_cost bytes values
 strings_cost bytes (ValueAnd _ values) = strings_cost bytes values
 
+-- the same of pieces
+abbrev pub pieces_count : (ℕ → ℕ) → List (List ℕ) → ℕ
+pieces_count bytes [] = 0
+pieces_count bytes (piece ∷ pieces) = bytes (length piece) + pieces_count bytes pieces
+
 -- WHAT IT ASKS OF THE MESSAGES
 
 -- a list holds many values, and any other field nothing or one
