@@ -49,6 +49,14 @@ def deep(draw):
     return payload
 
 
+def long_chain(draw):
+    """A chain of 100 nodes that ends with 15 MB of bytes: nothing of it fits a room of the writer."""
+    payload = text(5, draw.randbytes(15 * 10**6))
+    for _ in range(100):
+        payload = text(6, payload)
+    return payload
+
+
 SHAPES = {
     "ticks": Shape("pb.Tick", tick),
     "small ticks": Shape("pb.Tick", lambda draw: tick(draw, 1)),
@@ -67,6 +75,7 @@ SHAPES = {
     "words": Shape("pb.Node", lambda draw: text(7, b"w" * draw.randrange(1, 16))),
     "blobs": Shape("pb.Node", lambda draw: text(5, draw.randbytes(draw.randrange(1000, 9000)))),
     "marks": Shape("pb.Node", lambda draw: text(4, b"".join(varint(draw.randrange(2**14)) for _ in range(200)))),
+    "long chain": Shape("pb.Node", long_chain),
     # field 1 again and again, and field 2 a thousand times
     "a thousand records": Shape("pb.Tick", lambda draw: b"".join(tick(draw) for _ in range(1000))),
     "a thousand unknown": Shape("pb.Tick", lambda draw: b"".join(b"\x10" + varint(draw.randrange(2**14)) for _ in range(1000))),
