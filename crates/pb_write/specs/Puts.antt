@@ -4,7 +4,8 @@ use Rattle.pb_schema.specs.declared.kind.Card.TheVariants as cards
 use Rattle.pb_schema.specs.declared.kind.FieldType.{FieldType}
 use Rattle.pb_schema.specs.Kinds.{ValueType, Scalar, Nested, value_type_of}
 use Rattle.pb_schema.specs.Cards.{is_repeated}
-use Rattle.pb_schema.specs.Text.{field_tag}
+use Rattle.pb_schema.specs.Text.{field_tag, spelled_text}
+use Rattle.pb_schema.specs.Varint.{varint_of}
 use Rattle.msg_layout.specs.declared.entry.Entry.{Entry}
 use Rattle.msg_layout.specs.Slots.{slot_bytes, array_slot, is_message}
 use Rattle.msg_layout.specs.Sound.{MarkWithin}
@@ -57,3 +58,7 @@ fields_in (entry ∷ entries) = entry.field ∷ fields_in entries
 abbrev pub spelled_by : ValueType → ℕ → ℕ
 spelled_by (Scalar coding) p = coding.spelled p
 spelled_by _ p = p
+
+-- a number below 2^14 is written as a varint of its pattern
+abbrev pub SpellsSmall : ValueType → Type 0
+SpellsSmall type = (p : ℕ) → p < 2 ^ 14 → spelled_text type p ≡ varint_of p

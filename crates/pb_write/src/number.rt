@@ -1,5 +1,5 @@
 // Numbers as they stand on the wire.
-ghost use Rattle.std.specs.Prelude.{◌≡◌, ◌*◌, ◌^◌, ◌<◌, ◌≤◌, ℕ, List, OnOk, length};
+ghost use Rattle.std.specs.Prelude.{◌≡◌, ◌*◌, ◌^◌, ◌<◌, ◌≤◌, ℕ, List, true, OnOk, length};
 ghost use Rattle.std.specs.List.{concat};
 ghost use Rattle.arena_mem.specs.Places.{Places, Buffers};
 ghost use Rattle.pb_schema.specs.declared.schema.Schema.{Schema};
@@ -10,13 +10,16 @@ ghost use Rattle.pb_schema.specs.Tree.{ValueListWith, values_in_list, values_map
 ghost use Rattle.dyn_message.specs.Feet.{Foot};
 ghost use Rattle.dyn_message.specs.Fields.{IsNumberType};
 ghost use Rattle.dyn_message.specs.Stands.{ValuesStand};
-ghost use Rattle.pb_write.specs.Puts.{Gains, front_of, spelled_by};
+ghost use Rattle.pb_write.specs.Puts.{Gains, SpellsSmall, front_of, spelled_by};
 
 use crate::backwards::put_front;
 use crate::target::Target;
 use dyn_message::number_at;
 use msg_layout::single_bytes;
 use pb_schema::{FieldType, Kind};
+
+/// A varint of a number below this has one or two bytes.
+const SMALL_END: u64 = 1 << 14;
 
 /// Where the patterns of negative numbers of 32 bits begin.
 const NEGATIVE_32: u64 = 1 << 31;
@@ -43,6 +46,35 @@ pub(crate) fn put_number<T: Target>(kind: Kind, bits: u64, target: &mut T) -> Re
     }
 }
 
+// Whether a small number of this kind is written as a varint of its pattern.
+#[inline]
+fn is_plain(kind: Kind) -> bool
+    ensures { result ≡ true → SpellsSmall (value_type_of kind) }
+{
+    matches!(
+        kind,
+        Kind::Int32 | Kind::Int64 | Kind::UInt32 | Kind::UInt64 | Kind::Enumeration | Kind::Bool
+    )
+}
+
+// Puts a number as `put_number` does, where most are small and of a plain kind: those are put straight away.
+#[inline(always)]
+fn put_short<T: Target>(
+    kind: Kind,
+    plain: bool,
+    bits: u64,
+    target: &mut T,
+) -> Result<(), T::Refusal>
+    requires pattern { IsPatternOf (value_type_of kind) bits }
+    requires plain { plain ≡ true → SpellsSmall (value_type_of kind) }
+    ensures { OnOk result (Gains (T.holds target.old) (T.holds target.new) (spelled_text (value_type_of kind) bits)) }
+{
+    if plain && bits < SMALL_END {
+        return target.put_varint(bits);
+    }
+    put_number(kind, bits, target)
+}
+
 /// Puts the numbers of a list, which lie one behind the other in these bytes, each behind its tag where they aren't
 /// packed.
 pub(crate) fn put_numbers<T: Target>(
@@ -61,11 +93,13 @@ pub(crate) fn put_numbers<T: Target>(
         → OnOk result (Gains (T.holds target.old) (T.holds target.new) (values_text schema field (front_of packed field) (values_map concat values))) }
 {
     let size = single_bytes(field.kind);
+    let plain = is_plain(field.kind);
     let mut i = count;
     'numbers: while i > 0 {
         i -= 1;
-        put_number(
+        put_short(
             field.kind,
+            plain,
             number_at(elements, i * size, field.kind),
             target,
         )?;
