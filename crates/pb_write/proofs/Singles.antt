@@ -10,9 +10,11 @@ use Rattle.pb_schema.specs.Fitted.{IsStringOf}
 use Rattle.pb_schema.specs.Kinds.{ValueType, Scalar, Characters, Octets, Nested, value_type_of, slot_of}
 use Rattle.pb_schema.specs.Lawful.{Lawful}
 use Rattle.pb_schema.specs.Tree.{ValueWith, Number, Bytes, Sub, HeldWith, Nothing, One, Many, Shape}
+use Rattle.msg_layout.specs.declared.entry.Mark.{Mark}
+use Rattle.msg_layout.specs.declared.entry.Mark.TheVariants as marks
 use Rattle.msg_layout.specs.Slots.{is_message}
 use Rattle.dyn_message.specs.Feet.{Foot}
-use Rattle.dyn_message.specs.Slots.{number_in, place_in, word, set_by, MayBeUnset}
+use Rattle.dyn_message.specs.Slots.{number_in, place_in, word, set_by, told_by, MayBeUnset}
 use Rattle.dyn_message.specs.Stands.{IsSingle, HoldsNumber, IsLink, MayHold, ValueStands, HeldStands, MessageStands}
 use Rattle.dyn_message.specs.Strings.{HoldsBytes, NoBytes, ShortBytes, LongBytes}
 use Rattle.dyn_message.proofs.Linking.{message_long}
@@ -110,3 +112,9 @@ single_of cards.Implicit other = tt
 single_of cards.Explicit other = tt
 single_of (cards.Member oneof) other = tt
 single_of (cards.Repeated packed) other = absurd (other packed refl)
+
+-- a mark tells whether the field is set, whatever the slot tells
+pub marks_tell : (number : ℕ) (mark : Mark) (bytes : List ℕ) → (mark ≡ marks.Unmarked → ⊥) → (a b : Bool) → set_by (told_by number mark bytes) a ≡ set_by (told_by number mark bytes) b
+marks_tell number marks.Unmarked bytes marked a b = absurd (marked refl)
+marks_tell number (marks.Bit bit) bytes marked a b = refl
+marks_tell number (marks.Word at) bytes marked a b = refl

@@ -1,5 +1,5 @@
 -- A field that holds nothing has no text.
-use Rattle.std.proofs.Common.{◌≡◌, ℕ, zero, suc, Bool, false, not, eqb, true≢false, List, [], length, refl, sym, ap, ◌∙◌, subst, arith}
+use Rattle.std.proofs.Common.{◌≡◌, ℕ, zero, suc, Bool, true, false, not, eqb, true≢false, List, [], length, refl, sym, ap, ◌∙◌, subst, arith}
 use Rattle.std.proofs.lemmas.Bool.{ne_eqb}
 use Rattle.std.specs.Prelude.{if◌then◌else◌}
 use Rattle.std.specs.List.{concat}
@@ -45,3 +45,13 @@ module _ (schema : Schema) (lawful : Lawful schema) (places : Places) (buffers :
 
   pub unset_text : holds_some entry bytes ≡ false → held_text schema entry.field (held_map concat held) ≡ []
   unset_text none = by_card entry.field.card refl none
+
+-- a field of one value that holds something is set
+pub held_of : (entry : Entry) (bytes : List ℕ) → IsSingle entry.field.card → holds_some entry bytes ≡ true → is_held entry bytes ≡ true
+held_of entry bytes one some = by entry.field.card one some
+  where
+    by : (card : Card) → IsSingle card → (if is_repeated card then not (eqb (word 4 (part entry.slot array_slot bytes)) 0) else is_held entry bytes) ≡ true → is_held entry bytes ≡ true
+    by (cards.Repeated packed) one some = absurd one
+    by cards.Implicit one some = some
+    by cards.Explicit one some = some
+    by (cards.Member oneof) one some = some

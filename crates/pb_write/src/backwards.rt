@@ -1,6 +1,6 @@
 // The text of a message, from its end to its start: the pieces of its unknown bytes, then its fields by descending
 // number.
-ghost use Rattle.std.specs.Prelude.{◌≡◌, ◌+◌, ◌*◌, ◌≤◌, ◌<◌, ◌^◌, ◌++◌, ℕ, List, All, length, map, OnOk};
+ghost use Rattle.std.specs.Prelude.{◌≡◌, ◌+◌, ◌*◌, ◌≤◌, ◌<◌, ◌^◌, ◌++◌, ℕ, List, All, length, map, true, OnOk};
 ghost use Rattle.std.specs.List.{concat};
 ghost use Rattle.std.specs.FinMap as fin;
 ghost use Rattle.arena_mem.specs.Places.{IsLive};
@@ -22,7 +22,7 @@ use crate::target::Target;
 use arena_mem::Memory;
 use dyn_message::{MsgRef, bytes_in, is_set, link_at, list_at, number_at, slot_at, word};
 use msg_layout::tables::Layouts;
-use msg_layout::{Entry, single_bytes};
+use msg_layout::{Entry, Mark, single_bytes};
 use pb_schema::{Card, FieldType, Kind};
 
 /// More levels than messages nest in a text of fewer than 2^63 bytes, since each takes a byte.
@@ -102,14 +102,13 @@ fn put_fields<M: Memory, T: Target>(
     'fields: while i > 0 {
         i -= 1;
         if holds_some(bytes, &entries[i]) {
-            put_field(mem, types, bytes, &entries[i], left, target)?;
+            put_some(mem, types, bytes, &entries[i], left, target)?;
         }
     }
     Ok(())
 }
 
 /// Puts what a field holds.
-#[cycle(backwards)]
 pub(crate) fn put_field<M: Memory, T: Target>(
     mem: &M,
     types: &Layouts,
@@ -123,14 +122,39 @@ pub(crate) fn put_field<M: Memory, T: Target>(
     ensures { (held : HeldWith (List (List ℕ))) (feet : List Foot) → HeldStands types.now (M.places mem.now) (M.buffers mem.now) entry.now.field (told_in entry.now bytes.now) (slot_in entry.now bytes.now) held feet
         → OnOk result (Gains (T.holds target.old) (T.holds target.new) (held_text types.now entry.now.field (held_map concat held))) }
 {
+    let _schema = types.schema();
+    if !holds_some(bytes, entry) {
+        return Ok(());
+    }
+    put_some(mem, types, bytes, entry, left, target)
+}
+
+// Puts what a field holds, where it holds something. It is inlined, so that a field is read once.
+#[cycle(backwards)]
+#[inline(always)]
+fn put_some<M: Memory, T: Target>(
+    mem: &M,
+    types: &Layouts,
+    bytes: &[u8],
+    entry: &Entry,
+    left: u64,
+    target: &mut T,
+) -> Result<(), T::Refusal>
+    requires some { holds_some entry.now bytes.now ≡ true }
+    requires within { IsEntryIn entry.now bytes.now }
+    requires stand { (held : HeldWith (List (List ℕ))) × (feet : List Foot) × HeldStands types.now (M.places mem.now) (M.buffers mem.now) entry.now.field (told_in entry.now bytes.now) (slot_in entry.now bytes.now) held feet × (held_levels held ≤ left) }
+    ensures { (held : HeldWith (List (List ℕ))) (feet : List Foot) → HeldStands types.now (M.places mem.now) (M.buffers mem.now) entry.now.field (told_in entry.now bytes.now) (slot_in entry.now bytes.now) held feet
+        → OnOk result (Gains (T.holds target.old) (T.holds target.new) (held_text types.now entry.now.field (held_map concat held))) }
+{
     match entry.field.card {
         Card::Repeated { packed } => put_list(mem, types, bytes, entry, packed, left, target),
         _ => put_single(mem, types, bytes, entry, left, target),
     }
 }
 
-// Puts what a field of one value holds, behind its tag, and nothing where it is unset.
+// Puts the value of a field of one value that is set, behind its tag.
 #[cycle(backwards)]
+#[inline(always)]
 fn put_single<M: Memory, T: Target>(
     mem: &M,
     types: &Layouts,
@@ -140,21 +164,20 @@ fn put_single<M: Memory, T: Target>(
     target: &mut T,
 ) -> Result<(), T::Refusal>
     requires single { IsSingle entry.now.field.card }
+    requires held { is_held entry.now bytes.now ≡ true }
     requires within { IsEntryIn entry.now bytes.now }
     requires stand { (held : HeldWith (List (List ℕ))) × (feet : List Foot) × HeldStands types.now (M.places mem.now) (M.buffers mem.now) entry.now.field (told_in entry.now bytes.now) (slot_in entry.now bytes.now) held feet × (held_levels held ≤ left) }
     ensures { (held : HeldWith (List (List ℕ))) (feet : List Foot) → HeldStands types.now (M.places mem.now) (M.buffers mem.now) entry.now.field (told_in entry.now bytes.now) (slot_in entry.now bytes.now) held feet
         → OnOk result (Gains (T.holds target.old) (T.holds target.new) (held_text types.now entry.now.field (held_map concat held))) }
 {
     let _schema = types.schema();
-    if !is_held(bytes, entry) {
-        return Ok(());
-    }
     put_value(mem, types, bytes, entry.slot, entry.field, left, target)?;
     put_tag(entry.field, target)
 }
 
 // Puts the values of a list, each behind its tag, or all of them as one record.
 #[cycle(backwards)]
+#[inline(never)]
 fn put_list<M: Memory, T: Target>(
     mem: &M,
     types: &Layouts,
@@ -255,6 +278,7 @@ fn put_values<M: Memory, T: Target>(
 
 // Puts a value, whose slot lies at this place.
 #[cycle(backwards)]
+#[inline(always)]
 fn put_value<M: Memory, T: Target>(
     mem: &M,
     types: &Layouts,
@@ -302,7 +326,7 @@ pub(crate) fn put_nested<M: Memory, T: Target>(
 }
 
 // Puts bytes behind their length.
-#[inline]
+#[inline(never)]
 fn put_framed<T: Target>(bytes: &[u8], target: &mut T) -> Result<(), T::Refusal>
     ensures { OnOk result (Gains (T.holds target.old) (T.holds target.new) (framed bytes.now)) }
 {
@@ -311,7 +335,7 @@ fn put_framed<T: Target>(bytes: &[u8], target: &mut T) -> Result<(), T::Refusal>
 }
 
 // Puts the tag of a field's records.
-#[inline]
+#[inline(always)]
 fn put_tag<T: Target>(field: FieldType, target: &mut T) -> Result<(), T::Refusal>
     requires { field.number < 2 ^ 29 }
     ensures { OnOk result (Gains (T.holds target.old) (T.holds target.new) (field_tag field)) }
@@ -320,7 +344,7 @@ fn put_tag<T: Target>(field: FieldType, target: &mut T) -> Result<(), T::Refusal
 }
 
 // Puts the tag of a field's records, where a list isn't packed.
-#[inline]
+#[inline(always)]
 pub(crate) fn put_front<T: Target>(
     field: FieldType,
     packed: bool,
@@ -356,15 +380,14 @@ pub(crate) fn is_held(bytes: &[u8], entry: &Entry) -> bool
     requires within { IsEntryIn entry.now bytes.now }
     ensures { result ≡ is_held entry.now bytes.now }
 {
-    is_set(
-        bytes,
-        *entry,
-        slot_tells(bytes, entry.slot, entry.field.kind),
-    )
+    match entry.mark {
+        Mark::Unmarked => slot_tells(bytes, entry.slot, entry.field.kind),
+        _ => is_set(bytes, *entry, false),
+    }
 }
 
 // Whether a field holds something: a list an element, and any other a value.
-#[inline]
+#[inline(always)]
 fn holds_some(bytes: &[u8], entry: &Entry) -> bool
     requires { IsEntryIn entry.now bytes.now }
     ensures { result ≡ holds_some entry.now bytes.now }

@@ -22,8 +22,8 @@ use Rattle.pb_write.proofs.Gaining.{gains_nothing, gains_same, gains_two, then_g
 use Rattle.pb_write.proofs.Lists.{array_live, count_same, elements_there, element_fits, list_is, many_text, many_is, no_values_text, value_of, index_small}
 use Rattle.pb_write.proofs.Parts.{fields_drop, values_drop, field_at_index, fields_end, value_levels_at, value_text_at, values_end}
 use Rattle.pb_write.proofs.Records.{opened, entries_lie, type_known, record_live, pieces_at, entries_at, fields_at}
-use Rattle.pb_write.proofs.Singles.{set_value, unset_nothing, single_of}
-use Rattle.pb_write.proofs.Unset.{unset_text}
+use Rattle.pb_write.proofs.Singles.{set_value, single_of}
+use Rattle.pb_write.proofs.Unset.{unset_text, held_of}
 use Rattle.pb_write.proofs.Values.{message_value, message_place, string_value, string_slot, bytes_type, number_value, number_type}
 use Rattle.pb_write.proofs.backwards.+backwards.Goals as goal
 
@@ -90,11 +90,13 @@ put_elements-put_numbers-requires g t c =
 
 -- A FIELD
 
-pub put_field-put_list-requires : goal.put_field-put_list-requires
-put_field-put_list-requires g t c κs within = (omega (arith, c.decreases), (within.0, (within.1.0, (within.1.1.0, (within.1.1.1, (c.in-Repeated.is, (c.requires.within, c.requires.stand)))))))
+pub put_some-put_list-requires : goal.put_some-put_list-requires
+put_some-put_list-requires g t c κs within = (omega (arith, c.decreases), (within.0, (within.1.0, (within.1.1.0, (within.1.1.1, (c.in-Repeated.is, (c.requires.within, c.requires.stand)))))))
 
-pub put_field-put_single-requires : goal.put_field-put_single-requires
-put_field-put_single-requires g t c κs within = (omega (arith, c.decreases), (within.0, (within.1.0, (within.1.1.0, (within.1.1.1, (single_of c.args.entry.now.field.card c.in_default.not-Repeated, (c.requires.within, c.requires.stand)))))))
+pub put_some-put_single-requires : goal.put_some-put_single-requires
+put_some-put_single-requires g t c κs within =
+    let single = single_of c.args.entry.now.field.card c.in_default.not-Repeated in
+    (omega (arith, c.decreases), (within.0, (within.1.0, (within.1.1.0, (within.1.1.1, (single, (held_of c.args.entry.now c.args.bytes.now single c.requires.some, (c.requires.within, c.requires.stand))))))))
 
 -- FIELDS
 
@@ -112,14 +114,14 @@ put_fields-offset_bounds-entries-i g t c = let less = c.fields.invariant.within 
 pub put_fields-bounds-entries-i : goal.put_fields-bounds-entries-i
 put_fields-bounds-entries-i g t c = let less = c.fields.invariant.within in let some = c.fields-test.true in omega (arith, less, some)
 
-pub put_fields-put_field-requires : goal.put_fields-put_field-requires
-put_fields-put_field-requires g t c κs within =
+pub put_fields-put_some-requires : goal.put_fields-put_some-requires
+put_fields-put_some-requires g t c κs within =
     let stand = c.requires.stand in
     let less = c.fields.invariant.within in let some = c.fields-test.true in
     let below : c.fields.i - 1 < length c.args.entries.now = omega (arith, less, some) in
     let at = field_at_index c.args.types.now (g.M.Memory.places c.args.mem.now) (g.M.Memory.buffers c.args.mem.now) c.args.bytes.now c.args.entries.now stand.0 stand.1 (c.fields.i - 1) (get_or c.args.entries.now (c.fields.i - 1) past_end_entry) stand.2 (slice_get-get_or c.args.entries.now (c.fields.i - 1) past_end_entry below) in
     let deep = at.levels in let levels = stand.3 in
-    (omega (arith, c.decreases), (within.0, (within.1.0, (within.1.1.0, (within.1.1.1, (c.requires.within (c.fields.i - 1) past_end_entry below, (at.one, at.own, at.stands, omega (arith, deep, levels))))))))
+    (omega (arith, c.decreases), (within.0, (within.1.0, (within.1.1.0, (within.1.1.1, (sym c.holds_some.ensures ∙ c.if-holds_some.true, (c.requires.within (c.fields.i - 1) past_end_entry below, (at.one, at.own, at.stands, omega (arith, deep, levels)))))))))
 
 pub put_fields-fields-preserved-in-Continue-1 : goal.put_fields-fields-preserved-in-Continue-1
 put_fields-fields-preserved-in-Continue-1 g t c = record {
@@ -130,12 +132,12 @@ put_fields-fields-preserved-in-Continue-1 g t c = record {
       let entry = get_or c.args.entries.now (c.fields.i - 1) past_end_entry in
       let at = field_at_index c.args.types.now (g.M.Memory.places c.args.mem.now) (g.M.Memory.buffers c.args.mem.now) c.args.bytes.now c.args.entries.now held feet (c.fields.i - 1) entry stand (slice_get-get_or c.args.entries.now (c.fields.i - 1) past_end_entry below) in
       let next : suc (c.fields.i - 1) ≡ c.fields.i = omega (arith, some) in
-      let A = g.T.Target.holds c.args.target.now in let B = g.T.Target.holds c.fields.target in let C = g.T.Target.holds c.put_field.new.target in
+      let A = g.T.Target.holds c.args.target.now in let B = g.T.Target.holds c.fields.target in let C = g.T.Target.holds c.put_some.new.target in
       let own = held_text c.args.types.now entry.field (held_map concat at.one) in
       let rest = fields_text c.args.types.now (drop c.fields.i (fields_in c.args.entries.now)) (fields_map concat (fields_drop c.fields.i held)) in
       gains_same A C (own ++ rest) (fields_text c.args.types.now (drop (c.fields.i - 1) (fields_in c.args.entries.now)) (fields_map concat (fields_drop (c.fields.i - 1) held)))
       (sym (at.text ∙ ap (λ n. own ++ fields_text c.args.types.now (drop n (fields_in c.args.entries.now)) (fields_map concat (fields_drop n held))) next))
-      (gains_two A B C rest own (c.fields.invariant.gained held feet stand) (c.in_ok-put_field.ensures at.one at.own at.stands));
+      (gains_two A B C rest own (c.fields.invariant.gained held feet stand) (c.in_ok-put_some.ensures at.one at.own at.stands));
 }
 
 pub put_fields-fields-preserved : goal.put_fields-fields-preserved
@@ -281,17 +283,12 @@ put_nested-returns g t c = λ u feet stand.
 
 -- A FIELD OF ONE VALUE
 
-pub put_single-returns-then-not-is_held : goal.put_single-returns-then-not-is_held
-put_single-returns-then-not-is_held g t c = λ held own stand.
-    let none = unset_nothing c.args.types.now c.schema-schema.ensures.lawful (g.M.Memory.places c.args.mem.now) (g.M.Memory.buffers c.args.mem.now) c.args.entry.now.field (told_in c.args.entry.now c.args.bytes.now) (slot_in c.args.entry.now c.args.bytes.now) own c.requires.single c.requires.within.untold held stand (sym c.is_held.ensures ∙ c.if-not-is_held.true) in
-    gains_same (g.T.Target.holds c.args.target.now) (g.T.Target.holds c.args.target.now) [] (held_text c.args.types.now c.args.entry.now.field (held_map concat held)) (sym (ap (λ h. held_text c.args.types.now c.args.entry.now.field (held_map concat h)) none)) (gains_nothing (g.T.Target.holds c.args.target.now))
-
 pub put_single-put_value-requires : goal.put_single-put_value-requires
 unfolding slot_in
 put_single-put_value-requires g t c κs within =
     let stand = c.requires.stand in
     let field = c.args.entry.now.field in
-    let is = set_value c.args.types.now c.schema-schema.ensures.lawful (g.M.Memory.places c.args.mem.now) (g.M.Memory.buffers c.args.mem.now) field (told_in c.args.entry.now c.args.bytes.now) (slot_in c.args.entry.now c.args.bytes.now) stand.1 c.requires.single stand.0 stand.2 (sym c.is_held.ensures ∙ c.if-not-is_held.false) in
+    let is = set_value c.args.types.now c.schema-schema.ensures.lawful (g.M.Memory.places c.args.mem.now) (g.M.Memory.buffers c.args.mem.now) field (told_in c.args.entry.now c.args.bytes.now) (slot_in c.args.entry.now c.args.bytes.now) stand.1 c.requires.single stand.0 stand.2 c.requires.held in
     let size = single_slot field c.requires.single in
     let slot = c.requires.within.slot in let small = c.requires.within.small in let levels = stand.3 in
     (omega (arith, c.decreases), (within.0, (within.1.0, (within.1.1.0, (within.1.1.1, (omega (arith, slot, size), (omega (arith, slot, small), (is.value, is.own, subst (λ n. ValueStands c.args.types.now (g.M.Memory.places c.args.mem.now) (g.M.Memory.buffers c.args.mem.now) (value_type_of field.kind) (part c.args.entry.now.slot n c.args.bytes.now) is.value is.own) size is.stands, omega (arith, levels, ap held_levels is.is)))))))))
@@ -300,7 +297,7 @@ pub put_single-returns : goal.put_single-returns
 unfolding slot_in
 put_single-returns g t c = λ held own stand.
     let field = c.args.entry.now.field in
-    let is = set_value c.args.types.now c.schema-schema.ensures.lawful (g.M.Memory.places c.args.mem.now) (g.M.Memory.buffers c.args.mem.now) field (told_in c.args.entry.now c.args.bytes.now) (slot_in c.args.entry.now c.args.bytes.now) own c.requires.single held stand (sym c.is_held.ensures ∙ c.if-not-is_held.false) in
+    let is = set_value c.args.types.now c.schema-schema.ensures.lawful (g.M.Memory.places c.args.mem.now) (g.M.Memory.buffers c.args.mem.now) field (told_in c.args.entry.now c.args.bytes.now) (slot_in c.args.entry.now c.args.bytes.now) own c.requires.single held stand c.requires.held in
     let size = single_slot field c.requires.single in
     then_gains c.put_tag.result (g.T.Target.holds c.args.target.now) (g.T.Target.holds c.put_value.new.target) (g.T.Target.holds c.put_tag.new.target) (value_text c.args.types.now field (value_map concat is.value)) (field_tag field) (held_text c.args.types.now field (held_map concat held))
     (c.in_ok-put_value.ensures is.value is.own (subst (λ n. ValueStands c.args.types.now (g.M.Memory.places c.args.mem.now) (g.M.Memory.buffers c.args.mem.now) (value_type_of field.kind) (part c.args.entry.now.slot n c.args.bytes.now) is.value is.own) size is.stands)) c.put_tag.ensures

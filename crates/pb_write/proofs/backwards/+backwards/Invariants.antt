@@ -16,8 +16,8 @@ decreases-put_message g l = 10 * l.left + 9
 abbrev pub decreases-put_fields : goal.decreases-put_fields
 decreases-put_fields g l = 10 * l.left + 8
 
-abbrev pub decreases-put_field : goal.decreases-put_field
-decreases-put_field g l = 10 * l.left + 7
+abbrev pub decreases-put_some : goal.decreases-put_some
+decreases-put_some g l = 10 * l.left + 7
 
 abbrev pub decreases-put_single : goal.decreases-put_single
 decreases-put_single g l = 10 * l.left + 6
