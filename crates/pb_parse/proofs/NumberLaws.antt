@@ -1,5 +1,5 @@
 -- Numbers as they are found in bytes: where none is whole, and the pattern of one that is.
-use Rattle.std.proofs.Common.{◌≡◌, ℕ, ◌<◌, List, length, take, drop, true, false, leb, Result, Ok, Err, refl, sym, ap, ◌∙◌, subst, arith, take_all}
+use Rattle.std.proofs.Common.{◌≡◌, ℕ, ◌-◌, ◌^◌, ◌<◌, List, length, take, drop, true, false, leb, Result, Ok, Err, refl, sym, ap, ◌∙◌, subst, arith, take_all}
 use Rattle.std.specs.Prelude.{IsErr}
 use Rattle.std.proofs.lemmas.Bool.{cond-false, leb-true, false_from_ne_true}
 use Rattle.pb_schema.specs.declared.kind.Kind.{Kind}
@@ -12,6 +12,7 @@ use Rattle.pb_schema.specs.Kinds.{Coding, ValueType, Scalar, Characters, Octets,
 use Rattle.pb_schema.specs.TreeOf.{number_in, pattern_in}
 use Rattle.pb_schema.proofs.FitsLaws.{ScalarFacts, scalar_facts, front_below}
 use Rattle.pb_wire.specs.Placed.{value_in}
+use Rattle.pb_parse.specs.Numbers.{IsFound, KeepsSmall}
 use Rattle.pb_parse.proofs.NumberSteps.{scalar_anywhere}
 
 -- NONE
@@ -53,3 +54,16 @@ below_by (Nested type_no) facts = tt
 -- a number that is whole has one of the kind's patterns
 pub pattern_below : (kind : Kind) (coding : Coding) (at : ℕ) (s : List ℕ) (n : ℕ) → value_type_of kind ≡ Scalar coding → read_scalar coding.wire at s ≡ Ok n → pattern_in coding (take n s) < coding.patterns
 pattern_below kind coding at s n is e = (subst PatternBelow is (below_by (value_type_of kind) (scalar_facts kind))) at s n e
+
+-- SMALL ONES
+
+-- a small number of a kind that keeps them
+pub small_kept : (coding : Coding) (type : ValueType) (at : ℕ) (s : List ℕ) (v behind : ℕ) → KeepsSmall type → type ≡ Scalar coding → IsFound 0 at s v behind → v < 2 ^ 14
+    → (read_scalar coding.wire at s ≡ Ok (behind - at)) × (v ≡ pattern_in coding (take (behind - at) s)) × (v < coding.patterns)
+small_kept coding type at s v behind keeps is found small =
+    let own = subst KeepsSmall is keeps in
+    let kept = own.1 v small in (
+      ap (λ w. read_scalar w at s) own.0 ∙ found.read,
+      sym kept.0 ∙ (ap coding.kept found.value ∙ ap (λ w. coding.kept (number_in w (take (behind - at) s))) (sym own.0)),
+      kept.1,
+    )

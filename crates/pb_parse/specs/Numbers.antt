@@ -1,5 +1,5 @@
 -- Numbers at a place of some bytes, as they are found there.
-use Rattle.std.specs.Prelude.{◌≡◌, ◌+◌, ◌-◌, ◌<◌, ◌≤◌, ℕ, List, length, take, Option, Ok, Err, MatchOption}
+use Rattle.std.specs.Prelude.{◌≡◌, ◌+◌, ◌-◌, ◌<◌, ◌≤◌, ◌^◌, ℕ, List, length, take, Option, Ok, Err, MatchOption}
 use Rattle.pb_schema.specs.declared.wire_fault.WireFault.{WireFault}
 use Rattle.pb_schema.specs.Kinds.{ValueType, Scalar}
 use Rattle.pb_schema.specs.Form.{read_scalar}
@@ -21,3 +21,8 @@ IsFoundOrNone wire at s o =
 abbrev pub kept_by : ValueType → ℕ → ℕ
 kept_by (Scalar coding) v = coding.kept v
 kept_by _ v = v
+
+-- a number below 2^14 is written as a varint, and is its own pattern
+abbrev pub KeepsSmall : ValueType → Type 0
+KeepsSmall (Scalar coding) = (coding.wire ≡ 0) × ((v : ℕ) → v < 2 ^ 14 → (coding.kept v ≡ v) × (v < coding.patterns))
+KeepsSmall _ = ⊥

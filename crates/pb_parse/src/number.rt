@@ -1,12 +1,12 @@
 // Numbers of all kinds in bytes.
-ghost use Rattle.std.specs.Prelude.{◌≡◌, ◌-◌, ◌+◌, ◌<◌, ◌≤◌, ◌^◌, ℕ, length, take, drop, Ok, Err, MatchOption};
+ghost use Rattle.std.specs.Prelude.{◌≡◌, ◌-◌, ◌+◌, ◌<◌, ◌≤◌, ◌^◌, ℕ, true, length, take, drop, Ok, Err, IfSome, MatchOption};
 ghost use Rattle.pb_schema.specs.declared.wire_fault.WireFault.{WireFault};
 ghost use Rattle.pb_schema.specs.Kinds.{Coding, Scalar, unzigzag, value_type_of};
 ghost use Rattle.pb_schema.specs.Form.{read_scalar};
 ghost use Rattle.pb_schema.specs.TreeOf.{little_endian, pattern_in};
 ghost use Rattle.dyn_message.specs.Fields.{IsNumberType};
 ghost use Rattle.pb_parse.specs.Contents.{IsNumberWire};
-ghost use Rattle.pb_parse.specs.Numbers.{IsFoundOrNone, kept_by};
+ghost use Rattle.pb_parse.specs.Numbers.{IsFound, IsFoundOrNone, KeepsSmall, kept_by};
 
 use crate::contents::{EIGHT_BYTES, FOUR_BYTES, wire_of_kind};
 use pb_schema::Kind;
@@ -16,7 +16,7 @@ use pb_wire::find_value;
 const LOW_END: u64 = 1 << 32;
 
 /// The number of a kind at a place, as its bit pattern, and the place behind it; none where no whole number stands there.
-#[inline]
+#[inline(never)]
 pub fn number_at(bytes: &[u8], at: u32, kind: Kind) -> Option<(u64, u32)>
     requires number { IsNumberType (value_type_of kind) }
     requires at { at ≤ length bytes.now }
@@ -30,6 +30,59 @@ pub fn number_at(bytes: &[u8], at: u32, kind: Kind) -> Option<(u64, u32)>
         Some((number, behind)) => Some((kept(kind, number), behind)),
         None => None,
     }
+}
+
+/// Whether a small number of this kind is a varint, and its own pattern.
+#[inline]
+pub fn keeps_small(kind: Kind) -> bool
+    ensures { result ≡ true → KeepsSmall (value_type_of kind) }
+{
+    matches!(
+        kind,
+        Kind::Int32 | Kind::Int64 | Kind::UInt32 | Kind::UInt64 | Kind::Enumeration
+    )
+}
+
+/// The same as [`number_at`], where most numbers are small and of a kind that keeps them: those are read straight away.
+#[inline(always)]
+pub fn next_number(bytes: &[u8], at: u32, kind: Kind, plain: bool) -> Option<(u64, u32)>
+    requires number { IsNumberType (value_type_of kind) }
+    requires plain { plain ≡ true → KeepsSmall (value_type_of kind) }
+    requires at { at ≤ length bytes.now }
+    requires short { length bytes.now < 2 ^ 31 }
+    ensures { (coding : Coding) → value_type_of kind ≡ Scalar coding → MatchOption result
+        ((fault : WireFault) × (read_scalar coding.wire at (drop at bytes.now) ≡ Err fault))
+        (λ found. (read_scalar coding.wire at (drop at bytes.now) ≡ Ok (found.1 - at)) × (at < found.1) × (found.1 ≤ length bytes.now)
+        × (found.0 ≡ pattern_in coding (take (found.1 - at) (drop at bytes.now))) × (found.0 < coding.patterns)) }
+{
+    if plain {
+        if let Some(found) = small_at(bytes, at) {
+            return Some(found);
+        }
+    }
+    number_at(bytes, at, kind)
+}
+
+// The varint of one or two bytes at a place, and the place behind it, where such a one stands there.
+#[inline(always)]
+fn small_at(bytes: &[u8], at: u32) -> Option<(u64, u32)>
+    requires at { at ≤ length bytes.now }
+    requires short { length bytes.now < 2 ^ 31 }
+    ensures { IfSome result (λ found. IsFound 0 at (drop at bytes.now) found.0 found.1 × (found.0 < 2 ^ 14)) }
+{
+    let start = at as usize;
+    if bytes.len() - start < 2 {
+        return None;
+    }
+    let low = u64::from(bytes[start]);
+    if low < 128 {
+        return Some((low, at + 1));
+    }
+    let high = u64::from(bytes[start + 1]);
+    if high < 128 {
+        return Some((low % 128 + high * 128, at + 2));
+    }
+    None
 }
 
 // The number that the bytes of this wire type spell at a place, and the place behind it.

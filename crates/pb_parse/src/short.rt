@@ -11,7 +11,7 @@ ghost use Rattle.pb_parse.specs.Reading.{walked};
 ghost use Rattle.pb_parse.specs.Short.{IsShort};
 
 use crate::contents::{VARINT, is_list, takes_wire};
-use crate::number::number_at;
+use crate::number::{keeps_small, next_number};
 use arena_mem::Memory;
 use dyn_message::{MsgRef, set_scalar_by};
 use msg_layout::Entry;
@@ -53,7 +53,8 @@ pub fn short_number(types: &Layouts, type_no: u32, bytes: &[u8], at: u32) -> Opt
     if !takes_wire(entry.field, VARINT) {
         return None;
     }
-    let Some((bits, end)) = number_at(bytes, payload, entry.field.kind) else {
+    let kind = entry.field.kind;
+    let Some((bits, end)) = next_number(bytes, payload, kind, keeps_small(kind)) else {
         return None;
     };
     Some(ShortNumber {

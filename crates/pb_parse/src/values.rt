@@ -13,7 +13,7 @@ ghost use Rattle.msg_layout.specs.Layout.{entry_of};
 ghost use Rattle.pb_parse.specs.Parsing.{IsCause, IsFor, fits_kind};
 ghost use Rattle.pb_parse.specs.Reading.{contents_read, record_at, with_taken};
 
-use crate::number::number_at;
+use crate::number::{keeps_small, next_number, number_at};
 use crate::stop::Halt;
 use crate::unknown::MOST_ELEMENTS;
 use arena_mem::{MemFault, Memory, Place};
@@ -153,9 +153,10 @@ pub fn append_packed<M: Memory>(
     let number = field.number;
     let entry = entry_in(types, msg.type_no, number);
     let (mut array, mut count) = list_by(mem, types, msg, number, entry);
+    let plain = keeps_small(field.kind);
     let mut at = found.payload;
     while at < found.end {
-        let Some((bits, behind)) = number_at(front, at, field.kind) else {
+        let Some((bits, behind)) = next_number(front, at, field.kind, plain) else {
             return Err(Halt::Bad);
         };
         match append_next(mem, types, msg, number, entry, array, count, bits) {
