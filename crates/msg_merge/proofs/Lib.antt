@@ -1,8 +1,13 @@
 mod Chain
+mod Copied
 mod Costs
 mod Counts
+mod ListMerged
 mod Listed
+mod NestedMerged
+mod OneMerged
 mod Pieced
 mod Sample
 mod Standing
 mod Steps
+mod WalkedOn

@@ -45,7 +45,7 @@ one_more schema places buffers msg number field found value t feet st =
 
 -- NUMBERS
 
-pattern_is : (type : ValueType) (slot : List ℕ) (p : ℕ) → HoldsNumber type slot p → IsPatternOf type p
+pub pattern_is : (type : ValueType) (slot : List ℕ) (p : ℕ) → HoldsNumber type slot p → IsPatternOf type p
 pattern_is (Scalar coding) slot p h = h.0
 pattern_is Characters slot p h = h
 pattern_is Octets slot p h = h

@@ -1,17 +1,23 @@
-//! Merging messages, over any memory, and how large they are.
+//! Merging and copying messages, over any memory, and how large they are.
 //!
-//! It stands on the messages of `dyn_message`, beside what reads and writes them. Its contract: `units` and `depth` are
-//! exactly those of the tree that a message stands for. Neither takes memory or changes the message.
+//! It stands on the messages of `dyn_message`, beside what reads and writes them. Its contract: a message into which
+//! another one is merged stands for the merge of the two, and a copy for what was copied, each in its own memory alone;
+//! what that takes of the memory is a function of what the two stood for; and all that the message didn't stand on keeps
+//! its bytes. `units` and `depth` are exactly those of the tree that a message stands for.
 #![tactic(auto)]
 
+mod across;
 mod extent;
 mod laws;
 mod lists;
 mod measure;
+mod merge;
+mod values;
 mod walk;
 
 pub use laws::{standing_messages_hold_by_cards, walks_cost_what_merges_cost, walks_merge};
 pub use measure::{depth, units};
+pub use merge::{copy, merge_across};
 
 #[cfg(test)]
 mod tests;
