@@ -6,5 +6,7 @@
 #![tactic(auto)]
 
 mod links;
+mod swap;
 
 pub use links::{give_same, take_sub};
+pub use swap::swap_same;
