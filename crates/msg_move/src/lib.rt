@@ -5,8 +5,10 @@
 //! all else keeps its bytes.
 #![tactic(auto)]
 
+mod adopted;
 mod links;
 mod swap;
 
+pub use adopted::give_adopted;
 pub use links::{give_same, take_sub};
 pub use swap::swap_same;
