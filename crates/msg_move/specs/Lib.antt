@@ -1,3 +1,4 @@
 pub mod Adopted
+pub mod Released
 pub mod Swapped
 pub mod Taken

@@ -5,10 +5,12 @@
 //! all else keeps its bytes.
 #![tactic(auto)]
 
+mod across;
 mod adopted;
 mod links;
 mod swap;
 
+pub use across::{give_across, release, swap_across};
 pub use adopted::give_adopted;
 pub use links::{give_same, take_sub};
 pub use swap::swap_same;
