@@ -71,12 +71,15 @@ fn small_at(bytes: &[u8], at: u32) -> Option<(u64, u32)>
     ensures { IfSome result (λ found. IsFound 0 at (drop at bytes.now) found.0 found.1 × (found.0 < 2 ^ 14)) }
 {
     let start = at as usize;
-    if bytes.len() - start < 2 {
+    if start >= bytes.len() {
         return None;
     }
     let low = u64::from(bytes[start]);
     if low < 128 {
         return Some((low, at + 1));
+    }
+    if bytes.len() - start < 2 {
+        return None;
     }
     let high = u64::from(bytes[start + 1]);
     if high < 128 {
