@@ -17,7 +17,7 @@ ghost use Rattle.dyn_message.specs.Slots.{part, slot_in, told_in};
 ghost use Rattle.dyn_message.specs.Stands.{IsSingle, ValueStands, ValuesStand, HeldStands, FieldsStand, MessageStands, PiecesStand};
 ghost use Rattle.pb_write.specs.Puts.{Gains, IsEntryIn, is_held, holds_some, slot_tells, front_of, fields_in};
 
-use crate::number::{put_number, put_numbers};
+use crate::number::{is_plain, put_numbers, put_short};
 use crate::target::Target;
 use arena_mem::Memory;
 use dyn_message::{MsgRef, bytes_in, is_set, link_at, list_at, number_at, slot_at, word};
@@ -303,7 +303,10 @@ fn put_value<M: Memory, T: Target>(
             put_nested(mem, types, msg, left - 1, target)
         }
         Kind::Text | Kind::Bytes => put_framed(bytes_in(mem, slot_at(bytes, at)), target),
-        _ => put_number(field.kind, number_at(bytes, at, field.kind), target),
+        _ => {
+            let bits = number_at(bytes, at, field.kind);
+            put_short(field.kind, is_plain(field.kind), bits, target)
+        }
     }
 }
 

@@ -46,9 +46,9 @@ pub(crate) fn put_number<T: Target>(kind: Kind, bits: u64, target: &mut T) -> Re
     }
 }
 
-// Whether a small number of this kind is written as a varint of its pattern.
+/// Whether a small number of this kind is written as a varint of its pattern.
 #[inline]
-fn is_plain(kind: Kind) -> bool
+pub(crate) fn is_plain(kind: Kind) -> bool
     ensures { result ≡ true → SpellsSmall (value_type_of kind) }
 {
     matches!(
@@ -57,9 +57,9 @@ fn is_plain(kind: Kind) -> bool
     )
 }
 
-// Puts a number as `put_number` does, where most are small and of a plain kind: those are put straight away.
+/// Puts a number as [`put_number`] does, where most are small and of a plain kind: those are put straight away.
 #[inline(always)]
-fn put_short<T: Target>(
+pub(crate) fn put_short<T: Target>(
     kind: Kind,
     plain: bool,
     bits: u64,

@@ -325,12 +325,12 @@ put_value-bytes_in-requires-clause-holds g t c =
     let v = string_value c.args.types.now (g.M.Memory.places c.args.mem.now) (g.M.Memory.buffers c.args.mem.now) c.args.field (part c.args.at (slot_of (value_type_of c.args.field.kind)) c.args.bytes.now) stand.0 stand.1 type stand.2 in
     (v.bytes, stand.1, string_slot (g.M.Memory.places c.args.mem.now) (g.M.Memory.buffers c.args.mem.now) (value_type_of c.args.field.kind) c.args.at c.args.bytes.now c.slot_at.result.now v.bytes stand.1 type c.slot_at.ensures v.holds)
 
-pub put_value-put_number-requires : goal.put_value-put_number-requires
-put_value-put_number-requires g t c =
+pub put_value-put_short-requires-clause-pattern : goal.put_value-put_short-requires-clause-pattern
+put_value-put_short-requires-clause-pattern g t c =
     let stand = c.requires.stand in
     let type = number_type c.args.field.kind c.in_default.not-Text c.in_default.not-Message c.in_default.not-Bytes in
     let v = number_value c.args.types.now (g.M.Memory.places c.args.mem.now) (g.M.Memory.buffers c.args.mem.now) c.args.field (part c.args.at (slot_of (value_type_of c.args.field.kind)) c.args.bytes.now) stand.0 stand.1 type stand.2 in
-    subst (IsPatternOf (value_type_of c.args.field.kind)) (sym c.number_at.ensures) v.pattern
+    subst (IsPatternOf (value_type_of c.args.field.kind)) (sym c.number_at-bits.ensures) v.pattern
 
 pub put_value-returns-in-Message : goal.put_value-returns-in-Message
 put_value-returns-in-Message g t c = λ value own stand.
@@ -349,4 +349,4 @@ pub put_value-returns-in_default : goal.put_value-returns-in_default
 put_value-returns-in_default g t c = λ value own stand.
     let type = number_type c.args.field.kind c.in_default.not-Text c.in_default.not-Message c.in_default.not-Bytes in
     let v = number_value c.args.types.now (g.M.Memory.places c.args.mem.now) (g.M.Memory.buffers c.args.mem.now) c.args.field (part c.args.at (slot_of (value_type_of c.args.field.kind)) c.args.bytes.now) value own type stand in
-    on_ok_same c.put_number.result (g.T.Target.holds c.args.target.now) (g.T.Target.holds c.put_number.new.target) (spelled_text (value_type_of c.args.field.kind) c.number_at.result) (value_text c.args.types.now c.args.field (value_map concat value)) (ap (spelled_text (value_type_of c.args.field.kind)) c.number_at.ensures ∙ sym v.text) c.put_number.ensures
+    on_ok_same c.put_short.result (g.T.Target.holds c.args.target.now) (g.T.Target.holds c.put_short.new.target) (spelled_text (value_type_of c.args.field.kind) c.number_at-bits.result) (value_text c.args.types.now c.args.field (value_map concat value)) (ap (spelled_text (value_type_of c.args.field.kind)) c.number_at-bits.ensures ∙ sym v.text) c.put_short.ensures
