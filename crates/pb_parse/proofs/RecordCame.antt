@@ -25,7 +25,7 @@ use Rattle.dyn_message.specs.Stands.{Stands}
 use Rattle.dyn_message.specs.Changes.{NowStands}
 use Rattle.pb_parse.specs.Parsing.{Came, IsFor}
 use Rattle.pb_parse.specs.Reading.{contents_read, finished, onto_left, read_left, record_at, untyped, walked, with_taken}
-use Rattle.pb_parse.proofs.ContentsRead.{err_is, some_ok, some_err}
+use Rattle.pb_parse.proofs.ContentsRead.{err_is, ok_is, some_ok, some_err}
 use Rattle.pb_parse.proofs.ExactSteps.{record_here}
 use Rattle.pb_parse.proofs.FoundRecords.{found_for, found_value, no_group, piece_more}
 use Rattle.pb_parse.proofs.Memories.{stays, then_stands}
@@ -186,6 +186,40 @@ came_all schema left p0 p1 p2 b0 b1 b2 msg bytes at next unknown t feet still no
     let all = begun schema left fields t (drop at bytes) ∙ (c.goes (next, next) over ∙ (ap (finished schema left fields c.shape unknown) none ∙ ended schema left fields c.shape unknown)) in
     subst (λ u. NowStands schema p0 b0 p2 b2 msg u feet) (sym all)
     (then_stands schema p0 p1 p2 b0 b1 b2 msg c.shape (Message (fields_held c.shape) (unknown_held c.shape ++ piece unknown)) feet still c.stands put)
+
+-- the same where no bytes are unknown, and none are left
+pub came_whole : (schema : Schema) (left : ℕ) (p0 p1 : Places) (b0 b1 : Buffers) (msg : MsgRef) (bytes : List ℕ) (at next : ℕ) (t : Shape) (feet : List Foot)
+    → ((foot : Foot) → IsSome (foot_bytes p0 b0 foot) → IsSome (foot_bytes p1 b1 foot))
+    → drop next bytes ≡ []
+    → (c : Came schema left p0 b0 p1 b1 msg bytes at next [] [] t feet)
+    → NowStands schema p0 b0 p1 b1 msg (read_left schema left (fields_of schema msg.type_no) t (drop at bytes)) feet
+came_whole schema left p0 p1 b0 b1 msg bytes at next t feet still none c =
+    came_all schema left p0 p1 p1 b0 b1 b1 msg bytes at next [] t feet still none c
+    (subst (λ u. NowStands schema p1 b1 p1 b1 msg u c.stands.now) (same c.shape) (stays schema p1 b1 msg c.shape c.stands.now c.stands.stands))
+  where
+    same : (u : Shape) → u ≡ Message (fields_held u) (unknown_held u ++ [])
+    same (Message held pieces) = ap (Message held) (sym (append-nil pieces))
+
+-- and then they have no fault
+pub walk_whole : (schema : Schema) (left type_no : ℕ) (bytes : List ℕ) (next : ℕ) → drop next bytes ≡ [] → walked schema left (fields_of schema type_no) 0 bytes ≡ walked schema left (fields_of schema type_no) next (drop next bytes)
+    → IsOk (walked schema left (fields_of schema type_no) 0 bytes)
+walk_whole schema left type_no bytes next none walk =
+    let fields = fields_of schema type_no in
+    ok_is (walked schema left fields 0 bytes) (next, next) (walk ∙ (ap (walked schema left fields next) none ∙ walk_end schema left fields next))
+
+-- the same where what is left is read by another call
+pub came_then : (schema : Schema) (left : ℕ) (p0 p1 p2 : Places) (b0 b1 b2 : Buffers) (msg : MsgRef) (bytes : List ℕ) (at next : ℕ) (t : Shape) (feet : List Foot)
+    → ((foot : Foot) → IsSome (foot_bytes p0 b0 foot) → IsSome (foot_bytes p1 b1 foot))
+    → IsOk (walked schema left (fields_of schema msg.type_no) next (drop next bytes))
+    → (c : Came schema left p0 b0 p1 b1 msg bytes at next [] [] t feet)
+    → NowStands schema p1 b1 p2 b2 msg (read_left schema left (fields_of schema msg.type_no) c.shape (drop next bytes)) c.stands.now
+    → NowStands schema p0 b0 p2 b2 msg (read_left schema left (fields_of schema msg.type_no) t (drop at bytes)) feet
+came_then schema left p0 p1 p2 b0 b1 b2 msg bytes at next t feet still sound c put =
+    let fields = fields_of schema msg.type_no in
+    let over = some_ok (walked schema left fields next (drop next bytes)) sound in
+    let all = begun schema left fields t (drop at bytes) ∙ (c.goes over.0 over.1 ∙ sym (begun schema left fields c.shape (drop next bytes))) in
+    subst (λ u. NowStands schema p0 b0 p2 b2 msg u feet) (sym all)
+    (then_stands schema p0 p1 p2 b0 b1 b2 msg c.shape (read_left schema left fields c.shape (drop next bytes)) feet still c.stands put)
 
 -- THE SAME OF A RECORD THAT WAS FOUND
 

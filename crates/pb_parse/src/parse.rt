@@ -14,6 +14,7 @@ ghost use Rattle.pb_parse.specs.Parsing.{IsParseFault};
 
 use crate::exact::first_fault;
 use crate::message::{MOST_LEVELS, parse_message};
+use crate::short::put_front;
 use crate::stop::{Halt, ParseFault};
 use arena_mem::{MemFault, Memory};
 use dyn_message::MsgRef;
@@ -43,7 +44,11 @@ pub fn parse_into<M: Memory>(
     ensures changes { Changes M.key M.places M.buffers M.blocks (4 * length bytes.now + 3) (4 * length bytes.now + 3) (InPlace msg.place ∷ []) mem.old mem.new }
 {
     let _schema = types.schema();
-    match parse_message(alloc, mem, types, msg, bytes, 0, MOST_LEVELS) {
+    let start = put_front(mem, types, msg, bytes);
+    if start as usize == bytes.len() {
+        return Ok(());
+    }
+    match parse_message(alloc, mem, types, msg, bytes, start, MOST_LEVELS) {
         Ok(()) => Ok(()),
         Err(Halt::Bad) => match first_fault(types, msg.type_no, bytes) {
             Some(fault) => Err(ParseFault::Bad(fault)),

@@ -1,5 +1,5 @@
 // Records of fields that hold one number, a varint: most records are such ones, and are put without more ado.
-ghost use Rattle.std.specs.Prelude.{◌≡◌, ◌^◌, ◌<◌, ◌∷◌, [], ℕ, List, length, drop, IfSome};
+ghost use Rattle.std.specs.Prelude.{◌≡◌, ◌^◌, ◌<◌, ◌≤◌, ◌∷◌, [], ℕ, List, length, drop, IfSome};
 ghost use Rattle.pb_schema.specs.Fits.{fields_of};
 ghost use Rattle.pb_schema.specs.Tree.{Shape};
 ghost use Rattle.dyn_message.specs.Feet.{Foot, InPlace};
@@ -85,4 +85,29 @@ pub fn set_short<M: Memory>(
 {
     let _schema = types.schema();
     set_scalar_by(mem, types, msg, short.number, short.entry, short.bits);
+}
+
+/// Puts the records at the front of a payload, as long as they are such ones, and answers the place behind them. Many
+/// messages hold nothing else, and for these this loop is all. It takes no memory.
+#[inline]
+pub fn put_front<M: Memory>(mem: &mut M, types: &Layouts, msg: MsgRef, bytes: &[u8]) -> u32
+    requires message { IsMessageIn types.now (M.places mem.old) (M.buffers mem.old) msg }
+    requires short { length bytes.now < 2 ^ 25 }
+    ensures bound { result ≤ length bytes.now }
+    ensures message { IsMessageIn types.now (M.places mem.new) (M.buffers mem.new) msg }
+    ensures walk { (left : ℕ) → walked types.now left (fields_of types.now msg.type_no) 0 bytes.now ≡ walked types.now left (fields_of types.now msg.type_no) result (drop result bytes.now) }
+    ensures came { (left : ℕ) (t : Shape) (feet : List Foot) → Stands types.now (M.places mem.old) (M.buffers mem.old) msg t feet
+        → Came types.now left (M.places mem.old) (M.buffers mem.old) (M.places mem.new) (M.buffers mem.new) msg bytes.now 0 result [] [] t feet }
+    ensures changes { (t : Shape) (feet : List Foot) → Stands types.now (M.places mem.old) (M.buffers mem.old) msg t feet
+        → Changes M.key M.places M.buffers M.blocks 0 0 feet mem.old mem.new }
+{
+    let mut at = 0;
+    'records: while (at as usize) < bytes.len() {
+        let Some(short) = short_number(types, msg.type_no, bytes, at) else {
+            return at;
+        };
+        set_short(mem, types, msg, bytes, at, short);
+        at = short.end;
+    }
+    at
 }
