@@ -1,5 +1,5 @@
 -- A message that was merged into a fresh one.
-use Rattle.std.proofs.Common.{◌≡◌, ◌+◌, ◌*◌, ◌⊎◌, inr, ℕ, List, [], ◌∷◌, None, refl, sym, ap, ◌∙◌, subst, arith}
+use Rattle.std.proofs.Common.{◌≡◌, ◌+◌, ◌*◌, inr, ℕ, List, [], ◌∷◌, None, sym, ap, ◌∙◌, subst, arith}
 use Rattle.std.specs.Prelude.{IsSome}
 use Rattle.arena_mem.specs.Places.{Places, Buffers}
 use Rattle.arena_mem.specs.Grows.{Grows}
@@ -13,7 +13,7 @@ use Rattle.pb_schema.specs.Meter.{Meter}
 use Rattle.pb_schema.specs.Tree.{Shape}
 use Rattle.dyn_message.specs.declared.msg_ref.MsgRef.{MsgRef}
 use Rattle.dyn_message.specs.Changes.{Changes, IsFreshEmpty, NowStands}
-use Rattle.dyn_message.specs.Feet.{Foot, InPlace, IsAmong, OldOrFresh, foot_bytes}
+use Rattle.dyn_message.specs.Feet.{Foot, InPlace, OldOrFresh, foot_bytes}
 use Rattle.dyn_message.specs.Stands.{Stands}
 use Rattle.dyn_message.proofs.Changing.{changes_widen, grown}
 use Rattle.dyn_message.proofs.Counting.{one_is}

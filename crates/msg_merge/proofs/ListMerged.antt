@@ -1,5 +1,5 @@
 -- A list whose elements come behind those of another message, and what they count.
-use Rattle.std.proofs.Common.{◌≡◌, ◌+◌, ◌-◌, ◌*◌, ◌≤◌, ◌<◌, ◌^◌, ℕ, zero, suc, List, [], ◌∷◌, length, take, drop, Some, length-append, refl, sym, ap, ◌∙◌, subst, arith}
+use Rattle.std.proofs.Common.{◌≡◌, ◌+◌, ◌-◌, ◌≤◌, ◌<◌, ◌^◌, ℕ, suc, List, [], ◌∷◌, length, drop, Some, length-append, refl, sym, ap, ◌∙◌, subst, arith}
 use Rattle.std.specs.Prelude.{slice_get, sum_by, min}
 use Rattle.std.specs.List.{concat}
 use Rattle.std.proofs.lemmas.List.Sums.{sum_by-cons}
@@ -11,11 +11,11 @@ use Rattle.pb_schema.specs.Fitted.{IsStringOf}
 use Rattle.pb_schema.specs.HeldAt.{field_at, held_at}
 use Rattle.pb_schema.specs.Kinds.{ValueType, Scalar, Characters, Octets, Nested, value_type_of, slot_of}
 use Rattle.pb_schema.specs.Lawful.{Lawful}
-use Rattle.pb_schema.specs.MergeCost.{held_merge_cost, how_many, value_merge_cost, values_fresh_cost}
+use Rattle.pb_schema.specs.MergeCost.{held_merge_cost, value_merge_cost, values_fresh_cost}
 use Rattle.pb_schema.specs.Meter.{Meter, array_bytes}
 use Rattle.pb_schema.specs.ParseCost.{pieces_cost, string_cost}
 use Rattle.pb_schema.specs.Put.{values_held}
-use Rattle.pb_schema.specs.Tree.{ValueWith, Number, Bytes, Sub, HeldWith, Nothing, One, Many, Shape, Message, ValueListWith, NoValues, ValueAnd, values_in_list}
+use Rattle.pb_schema.specs.Tree.{ValueWith, Number, Bytes, Sub, HeldWith, Nothing, Many, Shape, Message, ValueListWith, NoValues, ValueAnd, values_in_list}
 use Rattle.pb_schema.specs.Units.{value_units, held_units, values_units, tree_units}
 use Rattle.pb_schema.proofs.MeterLaws.{placed_in_parts}
 use Rattle.msg_layout.specs.Layout.{layout_of}
@@ -24,8 +24,8 @@ use Rattle.dyn_message.specs.declared.msg_ref.MsgRef.{MsgRef}
 use Rattle.dyn_message.specs.Arrays.{HoldsArray, NoElements, Elements}
 use Rattle.dyn_message.specs.Feet.{Foot}
 use Rattle.dyn_message.specs.Fields.{IsBytesType, IsNumberType}
-use Rattle.dyn_message.specs.Lists.{bytes_by, count_at, element_bytes, elements_at}
-use Rattle.dyn_message.specs.Stands.{HoldsNumber, IsLink, IsList, IsPieceIn, PiecesStand, Stands, ValueStands, ValuesStand}
+use Rattle.dyn_message.specs.Lists.{bytes_by, count_at, element_bytes}
+use Rattle.dyn_message.specs.Stands.{HoldsNumber, IsLink, IsList, PiecesStand, Stands, ValuesStand}
 use Rattle.dyn_message.specs.Unknown.{pieces_of}
 use Rattle.dyn_message.proofs.Entries.{found_number}
 use Rattle.dyn_message.proofs.ListLaws.{open_list}
@@ -36,7 +36,6 @@ use Rattle.msg_merge.specs.Across.{field_into, field_cost, field_units, inner_un
 use Rattle.msg_merge.specs.Extents.{pieces_bytes}
 use Rattle.msg_merge.specs.Merging.{held_into, pieces_count, strings_cost, values_into}
 use Rattle.msg_merge.proofs.Counts.{value_at_index}
-use Rattle.msg_merge.proofs.Pieced.{piece_of}
 
 -- HOW MANY
 

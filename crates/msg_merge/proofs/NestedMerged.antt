@@ -1,5 +1,5 @@
 -- A message in a field or a list of another, into which a message of the other side was merged.
-use Rattle.std.proofs.Common.{◌≡◌, ◌+◌, ◌*◌, ◌≤◌, ◌⊎◌, ℕ, suc, List, [], ◌∷◌, length, Some, refl, sym, ap, ◌∙◌, subst, arith}
+use Rattle.std.proofs.Common.{◌≡◌, ◌+◌, ◌≤◌, ◌⊎◌, ℕ, List, [], Some, sym, ap, ◌∙◌, subst, arith}
 use Rattle.std.specs.Prelude.{slice_get, IsSome}
 use Rattle.std.proofs.lemmas.Option.{same_Some}
 use Rattle.arena_mem.specs.Places.{Places, Buffers}
@@ -12,13 +12,13 @@ use Rattle.pb_schema.specs.Kinds.{Nested, value_type_of}
 use Rattle.pb_schema.specs.Lawful.{Lawful}
 use Rattle.pb_schema.specs.Merge.{shape_merge}
 use Rattle.pb_schema.specs.MergeCost.{held_merge_cost, merge_cost, value_merge_cost}
-use Rattle.pb_schema.specs.Meter.{Meter, array_bytes}
+use Rattle.pb_schema.specs.Meter.{Meter}
 use Rattle.pb_schema.specs.Tree.{ValueWith, Nothing, One, Sub, Shape}
-use Rattle.pb_schema.specs.Units.{held_units, value_units, tree_units}
+use Rattle.pb_schema.specs.Units.{held_units, value_units}
 use Rattle.pb_schema.proofs.HeldLaws.{get_after_set}
 use Rattle.dyn_message.specs.declared.msg_ref.MsgRef.{MsgRef}
 use Rattle.dyn_message.specs.Feet.{Foot, times, KeepsOthers, OldOrFresh, foot_bytes}
-use Rattle.dyn_message.specs.Stands.{Stands, IsSingle, IsList}
+use Rattle.dyn_message.specs.Stands.{Stands, IsSingle}
 use Rattle.dyn_message.specs.Changes.{Changes, NowStands}
 use Rattle.dyn_message.specs.Links.{HasMadeSub, HasSub, made_bytes, sub_or}
 use Rattle.dyn_message.specs.Lists.{HasAppended, HasElement, count_at, elements_at, with_appended}

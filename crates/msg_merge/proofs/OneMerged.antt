@@ -1,5 +1,5 @@
 -- A field of one value that is merged into the same field of another message.
-use Rattle.std.proofs.Common.{◌≡◌, ◌+◌, ◌*◌, ◌≤◌, ◌<◌, ◌^◌, ◌⊎◌, inl, inr, ⊎_elim, ℕ, zero, suc, Bool, false, List, [], ◌∷◌, ◌++◌, length, Option, Some, Result, Ok, Err, refl, sym, ap, ◌∙◌, subst, arith}
+use Rattle.std.proofs.Common.{◌≡◌, ◌+◌, ◌<◌, ◌^◌, ◌⊎◌, inl, inr, ⊎_elim, ℕ, zero, suc, Bool, false, List, [], ◌∷◌, ◌++◌, length, Option, Some, Result, Ok, Err, refl, sym, ap, ◌∙◌, subst, arith}
 use Rattle.std.specs.Prelude.{map, slice_get, IfOk}
 use Rattle.arena_mem.specs.Places.{Places, Buffers}
 use Rattle.pb_schema.specs.declared.kind.Card.{Card}
@@ -10,19 +10,19 @@ use Rattle.pb_schema.specs.Empty.{empty_with, unset}
 use Rattle.pb_schema.specs.Fits.{fields_of, nested_fields, fields_of_value}
 use Rattle.pb_schema.specs.Fitted.{IsPatternOf, IsStringOf}
 use Rattle.pb_schema.specs.HeldAt.{field_at, held_at, with_held}
-use Rattle.pb_schema.specs.Kinds.{ValueType, Scalar, Characters, Octets, Nested, value_type_of}
+use Rattle.pb_schema.specs.Kinds.{ValueType, Nested, value_type_of}
 use Rattle.pb_schema.specs.Lawful.{Lawful}
 use Rattle.pb_schema.specs.Merge.{held_merged, fields_merged, is_replaced, message_merged, shape_merge}
 use Rattle.pb_schema.specs.MergeCost.{held_merge_cost, merge_cost, value_merge_cost, message_merge_cost, nested_size}
 use Rattle.pb_schema.specs.Meter.{Meter}
-use Rattle.pb_schema.specs.Tree.{ValueWith, Number, Bytes, Sub, HeldWith, Nothing, One, Many, Shape, Message, ValueListWith, NoValues, ValueAnd, HeldListWith, NoFields, FieldAnd, held_list, values_in_list}
+use Rattle.pb_schema.specs.Tree.{ValueWith, Number, Bytes, Sub, Nothing, One, Many, Shape, Message, ValueListWith, NoValues, ValueAnd, NoFields, FieldAnd, held_list, values_in_list}
 use Rattle.msg_layout.specs.Layout.{layout_of}
 use Rattle.dyn_message.specs.declared.msg_ref.MsgRef.{MsgRef}
 use Rattle.dyn_message.specs.Feet.{Foot}
 use Rattle.dyn_message.specs.Fields.{number_held, bytes_held, number_put, bytes_put, held_by}
 use Rattle.dyn_message.specs.Links.{made_bytes, sub_or}
 use Rattle.dyn_message.specs.Slots.{slot_in, told_in}
-use Rattle.dyn_message.specs.Stands.{HoldsNumber, IsLink, IsSingle, MayHold, HeldStands, Stands}
+use Rattle.dyn_message.specs.Stands.{HoldsNumber, IsSingle, MayHold, HeldStands, Stands}
 use Rattle.dyn_message.proofs.Entries.{found_number}
 use Rattle.dyn_message.proofs.Opening.{both, open_field, record_is}
 use Rattle.pb_parse.proofs.Memories.{entry_found}

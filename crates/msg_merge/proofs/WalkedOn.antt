@@ -1,5 +1,5 @@
 -- A walk over the fields of another message, one after the other.
-use Rattle.std.proofs.Common.{◌≡◌, ◌+◌, ◌*◌, ◌-◌, ◌≤◌, ◌<◌, ℕ, zero, suc, List, [], ◌∷◌, ◌++◌, length, drop, Some, refl, sym, ap, ap₂, ◌∙◌, subst, arith}
+use Rattle.std.proofs.Common.{◌≡◌, ◌+◌, ◌≤◌, ℕ, zero, suc, List, [], ◌∷◌, length, drop, Some, refl, sym, ap, ap₂, ◌∙◌, subst, arith}
 use Rattle.std.specs.Prelude.{slice_get, IsSome}
 use Rattle.std.specs.List.{AllByRecursion}
 use Rattle.std.specs.FinMap as fin
@@ -9,14 +9,14 @@ use Rattle.arena_mem.specs.Places.{Places, Buffers, used}
 use Rattle.pb_schema.specs.declared.kind.FieldType.{FieldType}
 use Rattle.pb_schema.specs.declared.schema.Schema.{Schema}
 use Rattle.pb_schema.specs.Fits.{fields_of}
-use Rattle.pb_schema.specs.HeldAt.{field_among, field_at, held_among, held_at, with_held}
+use Rattle.pb_schema.specs.HeldAt.{field_among, field_at, held_among, held_at}
 use Rattle.pb_schema.specs.Lawful.{Lawful}
 use Rattle.pb_schema.specs.Merge.{shape_merge}
-use Rattle.pb_schema.specs.MergeCost.{held_merge_cost, merge_cost}
+use Rattle.pb_schema.specs.MergeCost.{merge_cost}
 use Rattle.pb_schema.specs.Meter.{Meter, cleanups}
 use Rattle.pb_schema.specs.ParseCost.{pieces_cost}
-use Rattle.pb_schema.specs.Tree.{ValueWith, HeldWith, Nothing, One, Many, Shape, Message, ValueListWith, NoValues, ValueAnd, HeldListWith, NoFields, FieldAnd, fields_held, unknown_held}
-use Rattle.pb_schema.specs.Units.{held_units, fields_units}
+use Rattle.pb_schema.specs.Tree.{HeldWith, Nothing, One, Many, Shape, Message, ValueListWith, NoValues, ValueAnd, NoFields, FieldAnd, fields_held, unknown_held}
+use Rattle.pb_schema.specs.Units.{fields_units}
 use Rattle.msg_layout.specs.declared.entry.Entry.{Entry}
 use Rattle.msg_layout.specs.Layout.{layout_of}
 use Rattle.dyn_message.specs.declared.msg_ref.MsgRef.{MsgRef}
@@ -29,7 +29,7 @@ use Rattle.dyn_message.proofs.Entries.{fields_laid}
 use Rattle.dyn_message.proofs.Focus.{fields_in}
 use Rattle.pb_parse.proofs.Memories.{all_entries, stays, then_stands}
 use Rattle.pb_write.proofs.Parts.{fields_drop}
-use Rattle.msg_merge.specs.Across.{field_cost, field_into, field_units, inner_units, record_meter}
+use Rattle.msg_merge.specs.Across.{field_cost, field_into, field_units, record_meter}
 use Rattle.msg_merge.specs.Extents.{pieces_bytes}
 use Rattle.msg_merge.specs.Merging.{HoldsByCards, fields_into, fields_walk_cost, held_into, message_into, pieces_into, values_into, walk_cost}
 use Rattle.msg_merge.proofs.Costs.{walk_costs}

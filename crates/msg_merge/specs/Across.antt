@@ -1,5 +1,5 @@
 -- What merging a message of one memory into one of another tells of both.
-use Rattle.std.specs.Prelude.{◌≡◌, ◌+◌, ◌*◌, ℕ, List, length}
+use Rattle.std.specs.Prelude.{◌+◌, ℕ, List}
 use Rattle.arena_mem.specs.Places.{Places, Buffers}
 use Rattle.msg_layout.specs.Layout.{layout_of}
 use Rattle.pb_schema.specs.declared.kind.FieldType.{FieldType}
@@ -10,7 +10,8 @@ use Rattle.pb_schema.specs.Meter.{Meter, placed_bytes}
 use Rattle.pb_schema.specs.Tree.{Shape, fields_held}
 use Rattle.pb_schema.specs.Units.{held_units, fields_units}
 use Rattle.dyn_message.specs.declared.msg_ref.MsgRef.{MsgRef}
-use Rattle.dyn_message.specs.Feet.{Foot}
+use Rattle.dyn_message.specs.Changes.{NowStands}
+use Rattle.dyn_message.specs.Feet.{Foot, Separate}
 use Rattle.dyn_message.specs.Stands.{Stands}
 use Rattle.dyn_message.specs.Unknown.{pieces_of}
 use Rattle.msg_merge.specs.Extents.{pieces_bytes}
@@ -41,3 +42,8 @@ field_units schema type_no field u = held_units pieces_bytes (held_at schema typ
 
 abbrev pub inner_units : Shape → ℕ
 inner_units u = pieces_bytes (pieces_of u) + fields_units pieces_bytes (fields_held u)
+
+-- after a call the message stands for this shape, each foot being an old one or fresh, and shares none with these
+pub record StandsBeside (schema : Schema) (places : Places) (buffers : Buffers) (places' : Places) (buffers' : Buffers) (msg : MsgRef) (t : Shape) (feet others : List Foot) : Type 0 where
+  pub stands : NowStands schema places buffers places' buffers' msg t feet
+  pub apart : Separate others stands.now

@@ -7,17 +7,19 @@
 #![tactic(auto)]
 
 mod across;
+mod between;
 mod extent;
+mod inside;
 mod laws;
 mod lists;
 mod measure;
-mod merge;
 mod values;
 mod walk;
 
+pub use between::{copy, merge_across};
+pub use inside::merge;
 pub use laws::{standing_messages_hold_by_cards, walks_cost_what_merges_cost, walks_merge};
 pub use measure::{depth, units};
-pub use merge::{copy, merge_across};
 
 #[cfg(test)]
 mod tests;

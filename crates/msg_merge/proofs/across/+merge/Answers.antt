@@ -1,8 +1,7 @@
-use Rattle.std.proofs.Common.{◌≡◌, ◌+◌, ◌-◌, ◌*◌, ◌≤◌, ◌<◌, suc, List, length, refl, sym, ap, ◌∙◌, subst, arith, get_or}
+use Rattle.std.proofs.Common.{◌≡◌, ◌+◌, ◌-◌, ◌*◌, List, length, refl, sym, ap, ◌∙◌, subst, arith, get_or}
 use Rattle.std.specs.FinMap as fin
 use Rattle.std.specs.Prelude.{slice_get}
 use Rattle.std.proofs.lemmas.Option.{slice_get-get_or}
-use Rattle.arena_mem.specs.Places.{used}
 use Rattle.pb_schema.specs.HeldAt.{held_at}
 use Rattle.pb_schema.specs.MergeCost.{value_merge_cost, values_fresh_cost}
 use Rattle.pb_schema.specs.Meter.{array_bytes, cleanups}
@@ -14,8 +13,8 @@ use Rattle.pb_schema.specs.Units.{fields_units, value_units, values_units}
 use Rattle.pb_schema.proofs.MeterLaws.{placed_in_parts}
 use Rattle.msg_layout.proofs.FindLaws.{past_end_entry}
 use Rattle.msg_layout.specs.declared.entry.Entry.{Entry}
-use Rattle.msg_layout.specs.Layout.{Layout, layout_of}
-use Rattle.dyn_message.specs.Changes.{Changes, NowStands}
+use Rattle.msg_layout.specs.Layout.{Layout}
+use Rattle.dyn_message.specs.Changes.{NowStands}
 use Rattle.dyn_message.specs.Lists.{count_at}
 use Rattle.dyn_message.specs.Unknown.{pieces_of}
 use Rattle.dyn_message.proofs.Opening.{some_record}
@@ -28,7 +27,7 @@ use Rattle.msg_merge.proofs.Listed.{kept_more, listed_none, listed_more, listed_
 use Rattle.msg_merge.proofs.ListMerged.{element_grown, element_unit, fresh_left, list_into, list_units, no_more_cost, subs_cost, units_left}
 use Rattle.msg_merge.proofs.NestedMerged.{element_counts, element_merged, element_source, element_units, inside_changes, sub_counts, sub_field_units, sub_merged, sub_units}
 use Rattle.msg_merge.proofs.OneMerged.{if_ok, made_none, some_element}
-use Rattle.msg_merge.proofs.WalkedOn.{at_index, end_index, held_from, kept_whole, known_field, no_more, space_whole, step_units, walked_more, walked_none, walked_whole}
+use Rattle.msg_merge.proofs.WalkedOn.{at_index, end_index, held_from, kept_whole, known_field, space_whole, step_units, walked_more, walked_whole}
 use Rattle.msg_merge.proofs.across.+merge.Goals as goal
 
 -- A MESSAGE IN A FIELD

@@ -1,8 +1,4 @@
-use Rattle.std.proofs.Common.{◌≡◌, ◌<◌, ◌≤◌, ◌^◌, ◌∷◌, [], suc, sym, ap, ◌∙◌, subst, arith}
-use Rattle.pb_schema.specs.Depth.{depth_of}
-use Rattle.pb_schema.specs.Empty.{empty_with}
-use Rattle.pb_schema.specs.Fits.{fields_of}
-use Rattle.dyn_message.specs.Feet.{InPlace}
+use Rattle.std.proofs.Common.{arith}
 use Rattle.msg_merge.proofs.Chain.{stays_grown, apart_from_fresh, links, one_deeper, none_deep}
 use Rattle.msg_merge.proofs.tests.chain.Goals as goal
 

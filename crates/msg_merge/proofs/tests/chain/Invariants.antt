@@ -1,4 +1,4 @@
-use Rattle.std.proofs.Common.{◌≡◌, ◌≤◌, ◌-◌, ℕ, List}
+use Rattle.std.proofs.Common.{◌≡◌, ◌≤◌, ◌-◌, List}
 use Rattle.pb_schema.specs.Depth.{depth_of}
 use Rattle.pb_schema.specs.Tree.{Shape}
 use Rattle.dyn_message.specs.Feet.{Foot}

@@ -1,6 +1,5 @@
-use Rattle.std.proofs.Common.{◌+◌, ◌*◌, ap, sym, ◌∙◌, subst, arith}
+use Rattle.std.proofs.Common.{◌*◌, ap, subst, arith}
 use Rattle.std.specs.FinMap as fin
-use Rattle.arena_mem.specs.Places.{used}
 use Rattle.pb_schema.specs.Meter.{cleanups}
 use Rattle.dyn_message.specs.Changes.{NowStands}
 use Rattle.dyn_message.specs.Lists.{count_at}

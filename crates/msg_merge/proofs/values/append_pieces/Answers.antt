@@ -1,4 +1,4 @@
-use Rattle.std.proofs.Common.{◌+◌, ◌*◌, length, arith}
+use Rattle.std.proofs.Common.{◌*◌, length, arith}
 use Rattle.pb_schema.specs.Meter.{cleanups}
 use Rattle.dyn_message.specs.Unknown.{pieces_of}
 use Rattle.pb_parse.proofs.Memories.{within_more}

@@ -1,6 +1,4 @@
-use Rattle.std.proofs.Common.{◌+◌, ◌*◌, ap, sym, ◌∙◌, subst, arith}
-use Rattle.std.specs.FinMap as fin
-use Rattle.arena_mem.specs.Places.{used}
+use Rattle.std.proofs.Common.{◌*◌, subst, arith}
 use Rattle.pb_schema.specs.Meter.{cleanups}
 use Rattle.dyn_message.specs.Changes.{NowStands}
 use Rattle.dyn_message.specs.Lists.{count_at}
@@ -8,7 +6,7 @@ use Rattle.pb_parse.proofs.Memories.{within_more}
 use Rattle.msg_merge.specs.Across.{field_units, record_meter}
 use Rattle.msg_merge.proofs.Listed.{stands_as}
 use Rattle.msg_merge.proofs.ListMerged.{list_few, list_into, strings_costs}
-use Rattle.msg_merge.proofs.OneMerged.{all_ok, if_ok}
+use Rattle.msg_merge.proofs.OneMerged.{if_ok}
 use Rattle.msg_merge.proofs.values.append_strings.Goals as goal
 
 pub returns-clause-merged : goal.returns-clause-merged

@@ -1,4 +1,4 @@
-use Rattle.std.proofs.Common.{◌≡◌, ◌+◌, ◌*◌, [], ◌∷◌, refl, sym, ap, ◌∙◌, arith}
+use Rattle.std.proofs.Common.{[], ◌∷◌, refl, ap, arith}
 use Rattle.std.specs.FinMap as fin
 use Rattle.arena_mem.specs.Places.{used}
 use Rattle.pb_schema.specs.Meter.{cleanups}
@@ -7,7 +7,7 @@ use Rattle.dyn_message.proofs.Changing.{grown}
 use Rattle.dyn_message.proofs.Opening.{some_record}
 use Rattle.msg_merge.specs.Across.{record_meter}
 use Rattle.msg_merge.proofs.Copied.{blank, copied, copy_changes, copy_counts, made_changes, made_from}
-use Rattle.msg_merge.proofs.merge.copy.Goals as goal
+use Rattle.msg_merge.proofs.between.copy.Goals as goal
 
 pub create-requires : goal.create-requires
 create-requires g c =

@@ -3,7 +3,7 @@ use Rattle.pb_parse.proofs.Memories.{within_more}
 use Rattle.msg_merge.specs.Across.{inner_units}
 use Rattle.msg_merge.specs.Extents.{shape_units}
 use Rattle.msg_merge.proofs.Copied.{units_inside}
-use Rattle.msg_merge.proofs.merge.merge_across.Goals as goal
+use Rattle.msg_merge.proofs.between.merge_across.Goals as goal
 
 pub returns-clause-changes : goal.returns-clause-changes
 returns-clause-changes g c = λ t feet u own st from.
