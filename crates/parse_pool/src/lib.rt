@@ -18,3 +18,8 @@ pub use gate::{Gate, OpenGate};
 pub use halves::parse_all;
 pub use pool_end::{FrameResult, PoolEnd};
 pub use worker::Worker;
+
+#[cfg(test)]
+mod tests;
+#[cfg(test)]
+mod trials;
