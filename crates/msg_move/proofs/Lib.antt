@@ -1,3 +1,4 @@
 pub mod Crossing
 pub mod Joining
+pub mod Pairing
 pub mod Swapping

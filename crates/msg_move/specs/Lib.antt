@@ -1,4 +1,5 @@
 pub mod Adopted
+pub mod Pairs
 pub mod Released
 pub mod Swapped
 pub mod Taken

@@ -14,3 +14,6 @@ pub use across::{give_across, release, swap_across};
 pub use adopted::give_adopted;
 pub use links::{give_same, take_sub};
 pub use swap::swap_same;
+
+#[cfg(test)]
+mod tests;
