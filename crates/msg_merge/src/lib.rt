@@ -22,4 +22,6 @@ pub use laws::{standing_messages_hold_by_cards, walks_cost_what_merges_cost, wal
 pub use measure::{depth, units};
 
 #[cfg(test)]
+mod merge_tests;
+#[cfg(test)]
 mod tests;
