@@ -86,7 +86,7 @@ sum_each : {A : Type 0} (g h : A → ℕ) (xs : List A) → ((k : ℕ) (x : A) �
 sum_each g h [] same = refl
 sum_each g h (x ∷ xs) same = omega (arith, sum_by-cons g x xs, sum_by-cons h x xs, same 0 x refl, sum_each g h xs (λ k y at. same (suc k) y at))
 
-sum_parts : (h : SerialState → ℕ) (owners : Owners) (adopted : List SerialState)
+pub sum_parts : (h : SerialState → ℕ) (owners : Owners) (adopted : List SerialState)
     → sum_by h (map (λ (e : Entry SerialState). e.part) owners ++ adopted) ≡ sum_by (λ (e : Entry SerialState). h e.part) owners + sum_by h adopted
 sum_parts h [] adopted = omega arith
 sum_parts h (e ∷ es) adopted = omega (arith, sum_by-cons h e.part (map (λ (x : Entry SerialState). x.part) es ++ adopted), sum_by-cons (λ (x : Entry SerialState). h x.part) e es, sum_parts h es adopted)
@@ -130,3 +130,18 @@ module _ (a : ArenaState) (is : IsArena a) where
       ∙ sum_joined buffers_total exact_buffers buffers_of (λ (b : Buffer). b.region) buffer_named one (parts_of a) (regions_differ a is)
       ∙ sum_each (λ (s : SerialState). key_sum one (buffers_of s)) registered_of (parts_of a) (λ k s at. count_is (buffers_of s) ∙ kept_count s.region 0 s.kept)
       ∙ sum_parts registered_of a.owners a.adopted
+
+  -- and it has as many places and buffers as its parts together
+  pub places_whole : len (arena_places a) ≡ sum_by (λ (s : SerialState). len (places_of s)) (parts_of a)
+  unfolding all_places
+  places_whole =
+      sym (count_is (arena_places a))
+      ∙ sum_joined places_total exact_places places_of (λ (p : Place). p.region) place_named one (parts_of a) (regions_differ a is)
+      ∙ sum_each (λ (s : SerialState). key_sum one (places_of s)) (λ (s : SerialState). len (places_of s)) (parts_of a) (λ k s at. count_is (places_of s))
+
+  pub buffers_whole : len (arena_buffers a) ≡ sum_by (λ (s : SerialState). len (buffers_of s)) (parts_of a)
+  unfolding all_buffers
+  buffers_whole =
+      sym (count_is (arena_buffers a))
+      ∙ sum_joined buffers_total exact_buffers buffers_of (λ (b : Buffer). b.region) buffer_named one (parts_of a) (regions_differ a is)
+      ∙ sum_each (λ (s : SerialState). key_sum one (buffers_of s)) (λ (s : SerialState). len (buffers_of s)) (parts_of a) (λ k s at. count_is (buffers_of s))

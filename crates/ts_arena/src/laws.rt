@@ -2,7 +2,7 @@
 ghost use Rattle.std.specs.Prelude.{◌≡◌, ◌≢◌, ℕ};
 ghost use Rattle.std.specs.FinMap as map;
 ghost use Rattle.serial_arena.specs.Serial.{SerialState, places_of, buffers_of, blocks_of};
-ghost use Rattle.ts_arena.specs.Arena.{ArenaState, arena_used, arena_registered};
+ghost use Rattle.ts_arena.specs.Arena.{ArenaState, IsArena, arena_used, arena_registered};
 ghost use Rattle.arena_mem.specs.declared.place.Place.{Place};
 ghost use Rattle.arena_mem.specs.declared.place.Buffer.{Buffer};
 ghost use Rattle.arena_mem.specs.Places.{Apart, IsLive, IsKept, used};
@@ -15,6 +15,14 @@ ghost use Rattle.ts_arena.specs.Sole.{arena_places, arena_buffers, arena_blocks,
 use crate::arena::Arena;
 use crate::lease::Lease;
 use crate::shared::Shared;
+
+/// A law: the owners of an arena have callers and slots that differ, each slot below 64 and each serial arena laid by the
+/// policy, in the region of its slot; its adopted regions have numbers that differ, above all slots.
+pub fn arenas_are_lawful(arena: &Arena)
+    ensures { IsArena arena.now }
+{
+    let _life = arena.life;
+}
 
 /// A law: no two places of an arena share a byte, those of its owners and of its adopted regions alike.
 pub fn placements_lie_apart(arena: &Arena)

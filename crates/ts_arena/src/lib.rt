@@ -54,8 +54,9 @@ mod workers;
 pub use arena::Arena;
 pub use faults::{SettleFault, ShareFault, SoleFault};
 pub use laws::{
-    a_leased_slot_is_its_callers, lookups_go_to_the_region, passes_have_slots_of_their_own,
-    placements_lie_apart, sole_use_keeps_all_else, sums_are_those_of_the_map,
+    a_leased_slot_is_its_callers, arenas_are_lawful, lookups_go_to_the_region,
+    passes_have_slots_of_their_own, placements_lie_apart, sole_use_keeps_all_else,
+    sums_are_those_of_the_map,
 };
 pub use lease::Lease;
 pub use life_record::LifeRecord;
