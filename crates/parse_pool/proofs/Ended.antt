@@ -18,7 +18,7 @@ use Rattle.parse_pool.specs.Ends.{AreNumbered, HaveWorked, IsTaken, IsSound, End
 
 module _ (ph : PhaseState) where
   -- an earlier frame is that of an earlier turn
-  earlier : (worker turn other : ℕ) → frame_of ph worker turn < frame_of ph worker other → turn < other
+  pub earlier : (worker turn other : ℕ) → frame_of ph worker turn < frame_of ph worker other → turn < other
   earlier worker turn other less = ⊎_elim (λ lt. lt) (λ ge. let more = mul-le other ph.workers turn ph.workers ge (omega arith) in absurd (omega arith)) (split turn other)
     where
       split : (a b : ℕ) → (a < b) ⊎ (b ≤ a)

@@ -2,3 +2,9 @@ pub mod Workers
 pub mod Phases
 pub mod Parsed
 pub mod Ends
+pub mod Seating
+pub mod Starting
+pub mod Phased
+pub mod Arenas
+pub mod Leaving
+pub mod Collecting

@@ -6,17 +6,23 @@
 //! least frame that has a fault is told, with its first fault, however the workers' steps fell.
 #![tactic(auto)]
 
+mod collect;
 mod frame;
 mod gate;
 mod halves;
 mod phase;
 mod pool_end;
+mod seating;
+mod sharing;
 mod turns;
+mod whole;
+mod work;
 mod worker;
 
 pub use gate::{Gate, OpenGate};
 pub use halves::parse_all;
 pub use pool_end::{FrameResult, PoolEnd};
+pub use whole::parse_phase;
 pub use worker::Worker;
 
 #[cfg(test)]

@@ -1,7 +1,7 @@
 // Worked phases.
 ghost use Rattle.std.specs.Prelude.{◌<◌};
 
-use crate::trials::try_phase;
+use crate::trials::{Settled, try_arena, try_phase};
 use crate::{Gate, OpenGate, PoolEnd};
 use msg_layout::layouts;
 use pb_schema::builtin;
@@ -128,5 +128,42 @@ fn two_workers_meet_at_their_first_frames(rt: HostRuntime) -> Result<(), Fail> {
     assert_eq!(rt; end, PoolEnd::Done);
     assert_eq!(rt; parsed.as_slice(), [1, 0].as_slice());
     assert_eq!(rt; gate.missed.load(Ordering::SeqCst), 0);
+    Ok(())
+}
+
+#[test]
+fn a_settled_arena_has_the_messages_in_the_order_of_the_frames(
+    rt: HostRuntime,
+) -> Result<(), Fail> {
+    let types = layouts(rt.alloc(), builtin(rt.alloc())?)?;
+    let bytes = b"\x02\x08\x01\x02\x08\x02\x02\x08\x03\x02\x08\x04\x02\x08\x05";
+    let rows: [(usize, &[u32]); 4] = [
+        (1, &[0, 0, 0, 0, 0]),
+        (2, &[0, 1, 0, 1, 0]),
+        (4, &[0, 1, 2, 3, 0]),
+        (64, &[0, 1, 2, 3, 4]),
+    ];
+    for (workers, wanted) in rows {
+        let settled = try_arena(&rt, rt.alloc(), &types, bytes, workers, &OpenGate)?;
+        let wanted = Settled {
+            owners: if workers < 5 { workers as u32 } else { 5 },
+            used: 160,
+            regions: wanted.to_vec(rt.alloc())?,
+        };
+        assert_eq!(rt; settled, Ok(wanted));
+    }
+    let refused = try_arena(
+        &rt,
+        rt.alloc(),
+        &types,
+        b"\x02\x08\x01\x02\x08\x80",
+        3,
+        &OpenGate,
+    )?;
+    let fault = WireFault {
+        kind: WireKind::Cut,
+        byte: 1,
+    };
+    assert_eq!(rt; refused, Err(PoolEnd::BadFrame { index: 1, fault }));
     Ok(())
 }

@@ -4,16 +4,18 @@ ghost use Rattle.pb_schema.specs.Builtin.{builtin as builtin_schema};
 ghost use Rattle.ts_arena.specs.Passes.{AreAllOf, IsPassOf};
 ghost use Rattle.parse_pool.specs.Phases.{AreShort};
 ghost use Rattle.parse_pool.specs.Ends.{AreReady, AreNumbered};
+ghost use Rattle.parse_pool.specs.Starting.{AreEmpty};
 
-use crate::{Gate, PoolEnd, Worker, parse_all};
+use crate::{Gate, PoolEnd, Worker, parse_all, parse_phase};
 use arena_block::Policy;
+use dyn_message::MsgRef;
 use life_ids::ThreadCache;
 use msg_layout::tables::Layouts;
 use pb_wire::{Frames, read_frames};
 use std::alloc::Global;
 use std::thread::Threads;
 use thiserror::Error;
-use ts_arena::{Arena, Pass, Shared};
+use ts_arena::{Arena, Pass, Shared, Side};
 
 /// Why a trial was given up.
 #[derive(Debug, Drop, Error)]
@@ -124,15 +126,7 @@ pub(crate) fn try_phase<R: Threads + Sync, G: Gate + Sync>(
     if workers == 0 || workers > 64 {
         return Err(GaveUp::OtherCaller);
     }
-    let Ok(bytes) = bytes.to_vec(alloc) else {
-        return Err(GaveUp::NoMemory);
-    };
-    let Ok(frames) = read_frames(alloc, bytes) else {
-        return Err(GaveUp::NoFrames);
-    };
-    if !are_short(&frames) {
-        return Err(GaveUp::TooLong);
-    }
+    let frames = frames_of(alloc, bytes)?;
     let (shared, passes) = share(alloc, workers)?;
     let mut hired = hire(alloc, &shared, passes)?;
     if hired.is_empty() {
@@ -167,4 +161,97 @@ fn list_frames(alloc: Global, mut workers: Vec<Worker>) -> Result<Vec<u32>, Gave
         }
     }
     Ok(list)
+}
+
+/// A whole arena behind a phase.
+#[derive(Debug, Drop, PartialEq, Eq)]
+pub(crate) struct Settled {
+    pub(crate) owners: u32,
+    pub(crate) used: u128,
+    /// The region of each message, in the order of the frames.
+    pub(crate) regions: Vec<u32>,
+}
+
+/// Parses the frames of a file as ticks into an arena of its own, by so many workers.
+pub(crate) fn try_arena<R: Threads + Sync, G: Gate + Sync>(
+    rt: &R,
+    alloc: Global,
+    types: &Layouts,
+    bytes: &[u8],
+    workers: usize,
+    gate: &G,
+) -> Result<Result<Settled, PoolEnd>, GaveUp>
+    requires { types.now ≡ builtin_schema }
+{
+    if workers == 0 || workers > 64 {
+        return Err(GaveUp::OtherCaller);
+    }
+    let frames = frames_of(alloc, bytes)?;
+    let mut caches = empty_caches(alloc, workers)?;
+    let arena = Arena::new(alloc, Policy::profile(), 1);
+    let count = frames.count();
+    let (side, parsed) = parse_phase(
+        rt,
+        alloc,
+        arena,
+        caches.as_mut_slice(),
+        &frames,
+        0,
+        count,
+        types,
+        TICK,
+        gate,
+    );
+    let Side::Sole(arena) = side else {
+        return Err(GaveUp::NoMemory);
+    };
+    match parsed {
+        Ok(messages) => Ok(Ok(Settled {
+            owners: arena.owners(),
+            used: arena.space_used(),
+            regions: regions_of(alloc, messages)?,
+        })),
+        Err(end) => Ok(Err(end)),
+    }
+}
+
+/// So many caches of no arena.
+fn empty_caches(alloc: Global, workers: usize) -> Result<Vec<ThreadCache>, GaveUp>
+    ensures count { IfOk result (λ caches. length caches.items ≡ workers) }
+    ensures empty { IfOk result (λ caches. AreEmpty caches.items) }
+{
+    let mut caches = Vec::new(alloc);
+    while caches.len() < workers {
+        let Ok(()) = caches.push(ThreadCache::empty()) else {
+            return Err(GaveUp::NoMemory);
+        };
+    }
+    Ok(caches)
+}
+
+/// The frames of a file, all of them short.
+fn frames_of(alloc: Global, bytes: &[u8]) -> Result<Frames, GaveUp>
+    ensures { IfOk result (λ frames. AreShort frames 0 (length frames)) }
+{
+    let Ok(bytes) = bytes.to_vec(alloc) else {
+        return Err(GaveUp::NoMemory);
+    };
+    let Ok(frames) = read_frames(alloc, bytes) else {
+        return Err(GaveUp::NoFrames);
+    };
+    if !are_short(&frames) {
+        return Err(GaveUp::TooLong);
+    }
+    Ok(frames)
+}
+
+/// The region of each message.
+fn regions_of(alloc: Global, messages: Vec<MsgRef>) -> Result<Vec<u32>, GaveUp> {
+    let mut regions = Vec::new(alloc);
+    for msg in messages {
+        if regions.push(msg.place.region).is_err() {
+            return Err(GaveUp::NoMemory);
+        }
+    }
+    Ok(regions)
 }

@@ -1,8 +1,12 @@
 // A worker, between phases.
-ghost use Rattle.std.specs.Prelude.{◌≡◌, Some, []};
+ghost use Rattle.std.specs.Prelude.{◌≡◌, ◌<◌, Some, [], length};
+ghost use mathlib.Core.Option.{some};
+ghost use lib.ListN.{get_elem?};
 ghost use Rattle.ts_arena.specs.Passes.{caller_of, FitsPass};
+ghost use Rattle.parse_pool.specs.declared.pool_end.FrameResult.{FrameResult};
 
 use crate::pool_end::FrameResult;
+use dyn_message::MsgRef;
 use life_ids::ThreadCache;
 use std::alloc::Global;
 use std::marker::Model;
@@ -67,5 +71,13 @@ impl Worker {
             Some(pass) => (pass, cache, results),
             None => unreachable!(),
         }
+    }
+
+    /// The message that was parsed at this turn, counted from 0.
+    pub(crate) fn message(&self, turn: usize) -> MsgRef
+        requires { turn < length self.now.results }
+        ensures { (r : FrameResult) × (get_elem? self.now.results turn ≡ some r) × (r.msg ≡ result) }
+    {
+        self.results[turn].msg
     }
 }
