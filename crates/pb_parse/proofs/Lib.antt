@@ -20,3 +20,5 @@ pub mod RecordCame
 pub mod WholePayload
 pub mod Nested
 pub mod ShortRecords
+pub mod CostSteps
+pub mod CostLaws

@@ -4,3 +4,4 @@ pub mod Parsing
 pub mod Numbers
 pub mod Whole
 pub mod Short
+pub mod Costs
