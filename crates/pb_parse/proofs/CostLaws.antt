@@ -9,6 +9,7 @@ use Rattle.pb_schema.specs.Empty.{empty_with}
 use Rattle.pb_schema.specs.Fits.{takes, is_taken, fields_of}
 use Rattle.pb_schema.specs.Form.{Form}
 use Rattle.pb_schema.specs.HeldAt.{field_among, field_at, held_among, held_at, with_held}
+use Rattle.pb_schema.specs.Kinds.{Octets, slot_of}
 use Rattle.pb_schema.specs.Lawful.{Lawful, NumbersAscend}
 use Rattle.pb_schema.specs.Meter.{Meter, GrowsInParts}
 use Rattle.pb_schema.specs.MoreCost.{NestMore, fields_more, gathered_more, more_left}
@@ -200,3 +201,9 @@ fresh_cost_is meter grows schema left type_no s =
 pub whole_cost : (meter : Meter) → GrowsInParts meter → (schema : Schema) (type_no : ℕ) (s : List ℕ) → payload_cost meter schema type_no s ≡ meter.size type_no + read_cost meter schema most_levels type_no (empty_with [] (fields_of schema type_no)) s
 unfolding payload_cost
 whole_cost meter grows schema type_no s = fresh_cost_is meter grows schema most_levels type_no s
+
+-- no pieces count nothing
+pub no_pieces : (meter : Meter) → GrowsInParts meter → (before : ℕ) → pieces_cost meter before [] ≡ 0
+no_pieces meter grows before =
+    let none : before + 0 ≡ before = omega arith in
+    omega (arith, ap (meter.growth (slot_of Octets) before) none, grows.none (slot_of Octets) before)

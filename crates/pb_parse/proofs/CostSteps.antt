@@ -45,6 +45,16 @@ filter_taken test r rs e = ap (λ b. cond b (r ∷ filter test rs) (filter test 
 filter_left : (test : Record → Bool) (r : Record) (rs : List Record) → test r ≡ false → filter test (r ∷ rs) ≡ filter test rs
 filter_left test r rs e = ap (λ b. cond b (r ∷ filter test rs) (filter test rs)) e
 
+-- how many values a list has that is joined, and how many a field holds
+pub joined_count : (xs ys : ValueListWith (List (List ℕ))) → length (values_in_list (joined xs ys)) ≡ length (values_in_list xs) + length (values_in_list ys)
+joined_count NoValues ys = omega arith
+joined_count (ValueAnd x xs) ys = omega (arith, joined_count xs ys)
+
+pub held_count : (held : HeldWith (List (List ℕ))) → length (values_in_list (values_held held)) ≡ how_many held
+held_count Nothing = refl
+held_count (One value) = refl
+held_count (Many elements) = refl
+
 module _ (meter : Meter) (schema : Schema) (nest : NestCost) (more : NestMore) (onto : Onto (List (List ℕ))) (below : CountsBelow schema nest more onto) where
   -- ONE VALUE
 
@@ -115,15 +125,6 @@ module _ (meter : Meter) (schema : Schema) (nest : NestCost) (more : NestMore) (
   run_ends type held (run ∷ rest) p = omega (arith, single_free type held, single_anew type run, sum_by-cons (single_cost meter nest type) run rest)
 
   -- LISTS
-
-  joined_count : (xs ys : ValueListWith (List (List ℕ))) → length (values_in_list (joined xs ys)) ≡ length (values_in_list xs) + length (values_in_list ys)
-  joined_count NoValues ys = omega arith
-  joined_count (ValueAnd x xs) ys = omega (arith, joined_count xs ys)
-
-  held_count : (held : Holding) → length (values_in_list (values_held held)) ≡ how_many held
-  held_count Nothing = refl
-  held_count (One value) = refl
-  held_count (Many elements) = refl
 
   value_counts : (field : FieldType) (r : Record) → length (values_in schema (nest_onto schema [] onto) field r) ≡ value_count schema field r
   value_counts field r = by (value_type_of field.kind)

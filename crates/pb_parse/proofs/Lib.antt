@@ -22,3 +22,7 @@ pub mod Nested
 pub mod ShortRecords
 pub mod CostSteps
 pub mod CostLaws
+pub mod FieldsOpen
+pub mod Spending
+pub mod CostArms
+pub mod CostCame

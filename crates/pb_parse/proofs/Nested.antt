@@ -54,7 +54,7 @@ nested_type Octets h = absurd h
 
 -- ONE LEVEL DEEPER
 
-more_than_none : (left : ℕ) → left ≢ 0 → left ≡ suc (left - 1)
+pub more_than_none : (left : ℕ) → left ≢ 0 → left ≡ suc (left - 1)
 more_than_none zero some = absurd (some refl)
 more_than_none (suc left) some = omega arith
 

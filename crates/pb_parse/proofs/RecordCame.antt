@@ -23,12 +23,14 @@ use Rattle.dyn_message.specs.declared.msg_ref.MsgRef.{MsgRef}
 use Rattle.dyn_message.specs.Feet.{Foot, foot_bytes}
 use Rattle.dyn_message.specs.Stands.{Stands}
 use Rattle.dyn_message.specs.Changes.{NowStands}
+use Rattle.pb_parse.specs.Costs.{rest_cost}
 use Rattle.pb_parse.specs.Parsing.{Came, IsFor}
 use Rattle.pb_parse.specs.Reading.{contents_read, finished, onto_left, read_left, record_at, untyped, walked, with_taken}
 use Rattle.pb_parse.proofs.ContentsRead.{err_is, ok_is, some_ok, some_err}
 use Rattle.pb_parse.proofs.ExactSteps.{record_here}
 use Rattle.pb_parse.proofs.FoundRecords.{found_for, found_value, no_group, piece_more}
 use Rattle.pb_parse.proofs.Memories.{stays, then_stands}
+use Rattle.pb_parse.proofs.Spending.{nothing_spent, spends_then}
 use Rattle.pb_parse.proofs.RecordSteps.{begun, ended_none, ended_some, walk_end, walk_bad, walk_on, untyped_bad, other_whole, taken_is, taken_goes, other_goes}
 
 -- WHAT IS FOUND
@@ -152,7 +154,12 @@ module _ (schema : Schema) (left type_no at : ℕ) (bytes : List ℕ) (form : Fo
 
 pub came_none : (schema : Schema) (left : ℕ) (places : Places) (buffers : Buffers) (msg : MsgRef) (bytes : List ℕ) (at : ℕ) (unknown : List ℕ) (t : Shape) (feet : List Foot) → Stands schema places buffers msg t feet
     → Came schema left places buffers places buffers msg bytes at at unknown unknown t feet
-came_none schema left places buffers msg bytes at unknown t feet st = record { shape = t; stands = stays schema places buffers msg t feet st; goes = λ stop ok. refl }
+came_none schema left places buffers msg bytes at unknown t feet st = record {
+  shape = t;
+  stands = stays schema places buffers msg t feet st;
+  goes = λ stop ok. refl;
+  costs = λ stop ok. nothing_spent schema places buffers (λ meter. rest_cost meter schema left msg.type_no t unknown (drop at bytes)) (λ meter. rest_cost meter schema left msg.type_no t unknown (drop at bytes)) (λ meter grows. refl);
+}
 
 pub came_more : (schema : Schema) (left : ℕ) (p0 p1 p2 : Places) (b0 b1 b2 : Buffers) (msg : MsgRef) (bytes : List ℕ) (at mid next : ℕ) (u0 u1 u2 : List ℕ) (t : Shape) (feet : List Foot)
     → ((foot : Foot) → IsSome (foot_bytes p0 b0 foot) → IsSome (foot_bytes p1 b1 foot))
@@ -163,6 +170,11 @@ came_more schema left p0 p1 p2 b0 b1 b2 msg bytes at mid next u0 u1 u2 t feet st
   shape = d.shape;
   stands = then_stands schema p0 p1 p2 b0 b1 b2 msg c.shape d.shape feet still c.stands d.stands;
   goes = λ stop ok. c.goes stop (walk ∙ ok) ∙ d.goes stop ok;
+  costs = λ stop ok. spends_then schema p0 p1 p2 b0 b1 b2
+      (λ meter. rest_cost meter schema left msg.type_no t u0 (drop at bytes))
+      (λ meter. rest_cost meter schema left msg.type_no c.shape u1 (drop mid bytes))
+      (λ meter. rest_cost meter schema left msg.type_no d.shape u2 (drop next bytes))
+      (c.costs stop (walk ∙ ok)) (d.costs stop ok);
 }
 
 whole_shape : (t : Shape) → Message (fields_held t) (unknown_held t ++ []) ≡ t

@@ -1,5 +1,5 @@
 -- A record of a field that holds one number, a varint: its form, and what it makes of the message.
-use Rattle.std.proofs.Common.{◌≡◌, ◌≢◌, ◌+◌, ◌-◌, ◌<◌, ℕ, List, drop, Bool, true, false, eqb, Result, Ok, Err, Some, true≢false, refl, sym, ap, ◌∙◌, subst, arith, drop-drop}
+use Rattle.std.proofs.Common.{◌≡◌, ◌≢◌, ◌+◌, ◌-◌, ◌<◌, ℕ, List, length, drop, Bool, true, false, eqb, Result, Ok, Err, Some, true≢false, refl, sym, ap, ◌∙◌, subst, arith, drop-drop}
 use Rattle.std.specs.Prelude.{◌||◌, IsOk}
 use Rattle.std.proofs.lemmas.Bool.{eqb-true}
 use Rattle.arena_mem.specs.Places.{Places, Buffers}
@@ -13,7 +13,8 @@ use Rattle.pb_schema.specs.Form.{read_tag, read_scalar}
 use Rattle.pb_schema.specs.HeldAt.{field_at, with_held}
 use Rattle.pb_schema.specs.Kinds.{Coding, ValueType, Scalar, Characters, Octets, Nested, value_type_of, value_wire}
 use Rattle.pb_schema.specs.Lawful.{Lawful}
-use Rattle.pb_schema.specs.Tree.{Shape}
+use Rattle.pb_schema.specs.Meter.{Meter, GrowsInParts}
+use Rattle.pb_schema.specs.Tree.{Shape, fields_held, fields_in_list}
 use Rattle.pb_schema.proofs.HeldLaws.{field_number}
 use Rattle.pb_schema.proofs.FormLaws.{same_ok, not_ok}
 use Rattle.msg_layout.specs.declared.entry.Entry.{Entry}
@@ -25,13 +26,17 @@ use Rattle.dyn_message.specs.Feet.{Foot}
 use Rattle.dyn_message.specs.Fields.{IsNumberType, number_put}
 use Rattle.dyn_message.specs.Stands.{IsSingle}
 use Rattle.pb_parse.specs.Contents.{fits_wire}
+use Rattle.pb_parse.specs.Costs.{Costs, Spends, rest_cost}
 use Rattle.pb_parse.specs.Parsing.{Came}
 use Rattle.pb_schema.specs.Walk.{Stop}
 use Rattle.pb_parse.specs.Reading.{contents_read, finished, record_at, untyped, walked, with_taken}
 use Rattle.pb_parse.specs.Short.{IsShort}
 use Rattle.pb_parse.proofs.ContentsLaws.{field_there, takes_by_wire}
 use Rattle.pb_parse.proofs.ContentsRead.{ok_is, number_holds}
+use Rattle.pb_parse.proofs.CostArms.{number_free}
+use Rattle.pb_parse.proofs.CostCame.{found_counts}
 use Rattle.pb_parse.proofs.RecordCame.{FoundAt, found_is_for, found_walk, found_goes}
+use Rattle.pb_parse.proofs.Spending.{spends_by}
 use Rattle.pb_parse.proofs.TakenShapes.{number_coding, number_shape}
 use Rattle.pb_parse.proofs.ValuesRead.{value_is}
 
@@ -134,13 +139,26 @@ module _ (schema : Schema) (type_no : ℕ) (bytes : List ℕ) (at number : ℕ) 
       ∙ number_shape schema left type_no w bytes entry.field t k.0 bits known k.1 s.single
       (value_is schema type_no bytes w entry.field k.0 (found_is_for schema left type_no at bytes w (f left) entry.field known taken s.within) k.1 other (end - payload) bits v.0 v.1)
 
+  -- it counts nothing
+  short_counts : Lawful schema → (left : ℕ) (unknown : List ℕ) (t : Shape) (stop : Stop) → length (fields_in_list (fields_held t)) ≡ length (fields_of schema type_no) → walked schema left (fields_of schema type_no) end (drop end bytes) ≡ Ok stop → (meter : Meter) → GrowsInParts meter
+      → rest_cost meter schema left type_no t unknown (drop at bytes) ≡ 0 + rest_cost meter schema left type_no (with_taken schema left type_no entry.field (record_at w bytes) t) unknown (drop end bytes)
+  short_counts lawful left unknown t stop full ok meter grows =
+      found_counts meter grows schema left type_no at bytes w (f left) lawful entry.field known t unknown stop full taken (sound left) ok
+      ∙ ap (λ n. n + rest_cost meter schema left type_no (with_taken schema left type_no entry.field (record_at w bytes) t) unknown (drop end bytes))
+      (number_free meter schema left type_no entry.field (record_at w bytes) t k.0 k.1 s.single)
+
   pub short_came : Lawful schema → (left : ℕ) (unknown : List ℕ) (places : Places) (buffers : Buffers) (places' : Places) (buffers' : Buffers) (msg : MsgRef) (t : Shape) (feet : List Foot) → msg.type_no ≡ type_no
+      → length (fields_in_list (fields_held t)) ≡ length (fields_of schema type_no) → Costs schema places buffers places' buffers' (λ meter. 0)
       → NowStands schema places buffers places' buffers' msg (with_held schema type_no number (number_put schema type_no number bits) t) feet
       → Came schema left places buffers places' buffers' msg bytes at end unknown unknown t feet
-  short_came lawful left unknown places buffers places' buffers' msg t feet type put = record {
+  short_came lawful left unknown places buffers places' buffers' msg t feet type full spent put = record {
     shape = with_taken schema left type_no entry.field (record_at w bytes) t;
     stands = subst (λ u. NowStands schema places buffers places' buffers' msg u feet) (short_shape left t) put;
     goes = subst (λ n. (stop : Stop) → walked schema left (fields_of schema n) end (drop end bytes) ≡ Ok stop
         → finished schema left (fields_of schema n) t unknown (drop at bytes) ≡ finished schema left (fields_of schema n) (with_taken schema left type_no entry.field (record_at w bytes) t) unknown (drop end bytes)) (sym type)
         (λ stop ok. found_goes schema left type_no at bytes w (f left) lawful entry.field known t unknown stop taken (sound left) ok);
+    costs = subst (λ n. (stop : Stop) → walked schema left (fields_of schema n) end (drop end bytes) ≡ Ok stop
+        → Spends schema places buffers places' buffers' (λ meter. rest_cost meter schema left n t unknown (drop at bytes)) (λ meter. rest_cost meter schema left n (with_taken schema left type_no entry.field (record_at w bytes) t) unknown (drop end bytes))) (sym type)
+        (λ stop ok. spends_by schema places places' buffers buffers' (λ meter. 0) (λ meter. rest_cost meter schema left type_no t unknown (drop at bytes)) (λ meter. rest_cost meter schema left type_no (with_taken schema left type_no entry.field (record_at w bytes) t) unknown (drop end bytes)) spent
+        (short_counts lawful left unknown t stop full ok));
   }

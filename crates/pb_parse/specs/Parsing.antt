@@ -20,6 +20,8 @@ use Rattle.pb_parse.specs.declared.stop.Halt.{Halt}
 use Rattle.pb_parse.specs.declared.stop.Halt.TheVariants as halts
 use Rattle.pb_parse.specs.declared.stop.ParseFault.{ParseFault}
 use Rattle.pb_parse.specs.declared.stop.ParseFault.TheVariants as faults
+use Rattle.pb_schema.specs.Records.{Record}
+use Rattle.pb_parse.specs.Costs.{Costs, Spends, rest_cost, taken_cost}
 use Rattle.pb_parse.specs.Reading.{finished, walked, record_at}
 
 -- bytes that may be a value of a kind: text is UTF-8
@@ -51,14 +53,23 @@ pub record IsFor (schema : Schema) (type_no : ℕ) (bytes : List ℕ) (found : W
   pub within : found.end ≤ length bytes
   pub value : found.wire ≢ 2 → read_scalar found.wire found.payload (drop found.payload bytes) ≡ Ok found.payload_len
 
+-- the memory was made to hold what a record counts that a field of the message takes
+abbrev pub CostsTaken : Schema → ℕ → Places → Buffers → Places → Buffers → MsgRef → FieldType → Record → Shape → Type 0
+CostsTaken schema left places buffers places' buffers' msg field r t =
+    Costs schema places buffers places' buffers' (λ meter. taken_cost meter schema left msg.type_no field r t)
+
 -- some records in, the message stands for another shape, and what is left makes of it what all made of the first one,
--- where what is left has no fault
+-- and counts less than all did by what the memory was made to hold, where what is left has no fault
 pub record Came (schema : Schema) (left : ℕ) (places : Places) (buffers : Buffers) (places' : Places) (buffers' : Buffers) (msg : MsgRef) (bytes : List ℕ) (at next : ℕ) (unknown unknown' : List ℕ) (t : Shape) (feet : List Foot) : Type 0 where
   pub shape : Shape
   pub stands : NowStands schema places buffers places' buffers' msg shape feet
   pub goes : (stop : Stop) → walked schema left (fields_of schema msg.type_no) next (drop next bytes) ≡ Ok stop
       → finished schema left (fields_of schema msg.type_no) t unknown (drop at bytes)
       ≡ finished schema left (fields_of schema msg.type_no) shape unknown' (drop next bytes)
+  pub costs : (stop : Stop) → walked schema left (fields_of schema msg.type_no) next (drop next bytes) ≡ Ok stop
+      → Spends schema places buffers places' buffers'
+      (λ meter. rest_cost meter schema left msg.type_no t unknown (drop at bytes))
+      (λ meter. rest_cost meter schema left msg.type_no shape unknown' (drop next bytes))
 
 -- UNKNOWN BYTES
 

@@ -9,7 +9,8 @@ ghost use Rattle.dyn_message.specs.Feet.{Foot};
 ghost use Rattle.dyn_message.specs.Stands.{Stands, IsSingle, IsList};
 ghost use Rattle.dyn_message.specs.Changes.{Changes, NowStands};
 ghost use Rattle.dyn_message.specs.Fields.{IsMessageIn, IsMessageType};
-ghost use Rattle.pb_parse.specs.Parsing.{Always, Came, IsCause, IsFor, LiesBefore, pending};
+ghost use Rattle.pb_parse.specs.Costs.{Costs, read_cost};
+ghost use Rattle.pb_parse.specs.Parsing.{Always, Came, CostsTaken, IsCause, IsFor, LiesBefore, pending};
 ghost use Rattle.pb_parse.specs.Reading.{contents_read, read_left, record_at, walked, with_taken};
 
 use crate::contents::{DELIMITED, is_list, takes_wire};
@@ -48,6 +49,8 @@ pub fn parse_message<M: Memory>(
     ensures stopped { IfErr result (IsCause (M.blocks mem.new) (IsErr (walked types.now left (fields_of types.now msg.type_no) start (drop start bytes.now)))) }
     ensures changes { (t : Shape) (feet : List Foot) → Stands types.now (M.places mem.old) (M.buffers mem.old) msg t feet
         → Changes M.key M.places M.buffers M.blocks (4 * (length bytes.now - start) + 2) (4 * (length bytes.now - start) + 2) feet mem.old mem.new }
+    ensures costs { IfOk result (λ _. (t : Shape) (feet : List Foot) → Stands types.now (M.places mem.old) (M.buffers mem.old) msg t feet
+        → Costs types.now (M.places mem.old) (M.buffers mem.old) (M.places mem.new) (M.buffers mem.new) (λ meter. read_cost meter types.now left msg.type_no t (drop start bytes.now))) }
 {
     let mut unknown = Unknown::before(alloc, start);
     let mut at = start;
@@ -146,6 +149,8 @@ fn parse_taken<M: Memory>(
     ensures stopped { IfErr result (IsCause (M.blocks mem.new) (IsErr (contents_read types.now left field found bytes.now))) }
     ensures changes { (t : Shape) (feet : List Foot) → Stands types.now (M.places mem.old) (M.buffers mem.old) msg t feet
         → Changes M.key M.places M.buffers M.blocks (4 * (found.end - found.start)) (4 * (found.end - found.start)) feet mem.old mem.new }
+    ensures costs { IfOk result (λ _. (t : Shape) (feet : List Foot) → Stands types.now (M.places mem.old) (M.buffers mem.old) msg t feet
+        → CostsTaken types.now left (M.places mem.old) (M.buffers mem.old) (M.places mem.new) (M.buffers mem.new) msg field (record_at found bytes.now) t) }
 {
     let listed = is_list(field.card);
     match field.kind {
@@ -218,7 +223,10 @@ fn parse_sub<M: Memory>(
     ensures stopped { IfErr result (IsCause (M.blocks mem.new) (IsErr (contents_read types.now left field found bytes.now))) }
     ensures changes { (t : Shape) (feet : List Foot) → Stands types.now (M.places mem.old) (M.buffers mem.old) msg t feet
         → Changes M.key M.places M.buffers M.blocks (4 * found.payload_len + 4) (4 * found.payload_len + 4) feet mem.old mem.new }
+    ensures costs { IfOk result (λ _. (t : Shape) (feet : List Foot) → Stands types.now (M.places mem.old) (M.buffers mem.old) msg t feet
+        → CostsTaken types.now left (M.places mem.old) (M.buffers mem.old) (M.places mem.new) (M.buffers mem.new) msg field (record_at found bytes.now) t) }
 {
+    let _schema = types.schema();
     if left == 0 {
         return Err(Halt::Bad);
     }
@@ -254,6 +262,8 @@ fn parse_element<M: Memory>(
     ensures stopped { IfErr result (IsCause (M.blocks mem.new) (IsErr (contents_read types.now left field found bytes.now))) }
     ensures changes { (t : Shape) (feet : List Foot) → Stands types.now (M.places mem.old) (M.buffers mem.old) msg t feet
         → Changes M.key M.places M.buffers M.blocks (4 * found.payload_len + 4) (4 * found.payload_len + 4) feet mem.old mem.new }
+    ensures costs { IfOk result (λ _. (t : Shape) (feet : List Foot) → Stands types.now (M.places mem.old) (M.buffers mem.old) msg t feet
+        → CostsTaken types.now left (M.places mem.old) (M.buffers mem.old) (M.places mem.new) (M.buffers mem.new) msg field (record_at found bytes.now) t) }
 {
     if left == 0 {
         return Err(Halt::Bad);

@@ -1,10 +1,15 @@
 // Parsing a payload into an empty message.
 ghost use Rattle.std.specs.Prelude.{◌≡◌, ◌+◌, ◌*◌, ◌<◌, ◌^◌, ◌∷◌, [], None, Some, length, IfOk, IfErr};
+ghost use Rattle.std.specs.FinMap as fin;
 ghost use Rattle.std.specs.List.{concat};
+ghost use Rattle.arena_mem.specs.Places.{used};
+ghost use Rattle.msg_layout.specs.Layout.{layout_of};
 ghost use Rattle.pb_schema.specs.Empty.{empty_with};
 ghost use Rattle.pb_schema.specs.Fault.{fault_of};
 ghost use Rattle.pb_schema.specs.Fits.{fields_of};
-ghost use Rattle.pb_parse.specs.Whole.{shape_of_payload};
+ghost use Rattle.pb_schema.specs.Meter.{cleanups};
+ghost use Rattle.pb_parse.specs.Costs.{record_meter};
+ghost use Rattle.pb_parse.specs.Whole.{payload_cost, shape_of_payload};
 ghost use Rattle.pb_schema.specs.Tree.{tree_map};
 ghost use Rattle.pb_schema.specs.TreeOf.{tree_of};
 ghost use Rattle.dyn_message.specs.Feet.{InPlace};
@@ -42,6 +47,8 @@ pub fn parse_into<M: Memory>(
     ensures sound { IfOk result (λ _. fault_of types.now msg.type_no 0 bytes.now ≡ None) }
     ensures fault { IfErr result (IsParseFault (fault_of types.now msg.type_no 0 bytes.now) (M.blocks mem.new)) }
     ensures changes { Changes M.key M.places M.buffers M.blocks (4 * length bytes.now + 3) (4 * length bytes.now + 3) (InPlace msg.place ∷ []) mem.old mem.new }
+    ensures space { IfOk result (λ _. used (M.places mem.new) + (layout_of types.now msg.type_no).size ≡ used (M.places mem.old) + payload_cost (record_meter types.now) types.now msg.type_no bytes.now) }
+    ensures kept { IfOk result (λ _. fin.len (M.buffers mem.new) ≡ fin.len (M.buffers mem.old) + payload_cost cleanups types.now msg.type_no bytes.now) }
 {
     let _schema = types.schema();
     let start = put_front(mem, types, msg, bytes);

@@ -1,6 +1,7 @@
 // The unknown bytes of a payload while it is read: most payloads have none, and most others one run of them.
 ghost use Rattle.std.specs.Prelude.{◌≡◌, ◌++◌, ◌-◌, ◌+◌, ◌<◌, ◌≤◌, ◌^◌, [], ℕ, List, take, drop, length, IfOk, IfErr, OnErr};
 ghost use Rattle.arena_mem.specs.Places.{NamesFullRegion};
+ghost use Rattle.pb_schema.specs.ParseCost.{pieces_cost};
 ghost use Rattle.pb_schema.specs.Records.{Record, Records};
 ghost use Rattle.pb_schema.specs.ShapeOf.{piece};
 ghost use Rattle.pb_schema.specs.Tree.{Shape, Message, fields_held, unknown_held};
@@ -8,6 +9,7 @@ ghost use Rattle.dyn_message.specs.Feet.{Foot};
 ghost use Rattle.dyn_message.specs.Stands.{Stands};
 ghost use Rattle.dyn_message.specs.Changes.{Changes, NowStands};
 ghost use Rattle.dyn_message.specs.Fields.{IsMessageIn};
+ghost use Rattle.pb_parse.specs.Costs.{Costs};
 ghost use Rattle.pb_parse.specs.Parsing.{LiesBefore, pending};
 
 use arena_mem::{MemFault, Memory};
@@ -94,6 +96,8 @@ pub fn append_pending<M: Memory>(
     ensures appended { IfOk result (λ _. (t : Shape) (feet : List Foot) → Stands types.now (M.places mem.old) (M.buffers mem.old) msg t feet
         → NowStands types.now (M.places mem.old) (M.buffers mem.old) (M.places mem.new) (M.buffers mem.new) msg (Message (fields_held t) (unknown_held t ++ piece (pending unknown.old bytes.now))) feet) }
     ensures changes { (t : Shape) (feet : List Foot) → Stands types.now (M.places mem.old) (M.buffers mem.old) msg t feet → Changes M.key M.places M.buffers M.blocks 2 1 feet mem.old mem.new }
+    ensures costs { IfOk result (λ _. (t : Shape) (feet : List Foot) → Stands types.now (M.places mem.old) (M.buffers mem.old) msg t feet
+        → Costs types.now (M.places mem.old) (M.buffers mem.old) (M.places mem.new) (M.buffers mem.new) (λ meter. pieces_cost meter (length (unknown_held t)) (piece (pending unknown.old bytes.now)))) }
     ensures spent { IfErr result (NamesFullRegion (M.blocks mem.new)) }
 {
     if unknown.copied.is_empty() {
@@ -122,6 +126,8 @@ fn append_piece<M: Memory>(
     ensures appended { IfOk result (λ _. (t : Shape) (feet : List Foot) → Stands types.now (M.places mem.old) (M.buffers mem.old) msg t feet
         → NowStands types.now (M.places mem.old) (M.buffers mem.old) (M.places mem.new) (M.buffers mem.new) msg (Message (fields_held t) (unknown_held t ++ piece bytes.now)) feet) }
     ensures changes { (t : Shape) (feet : List Foot) → Stands types.now (M.places mem.old) (M.buffers mem.old) msg t feet → Changes M.key M.places M.buffers M.blocks 2 1 feet mem.old mem.new }
+    ensures costs { IfOk result (λ _. (t : Shape) (feet : List Foot) → Stands types.now (M.places mem.old) (M.buffers mem.old) msg t feet
+        → Costs types.now (M.places mem.old) (M.buffers mem.old) (M.places mem.new) (M.buffers mem.new) (λ meter. pieces_cost meter (length (unknown_held t)) (piece bytes.now))) }
     ensures spent { IfErr result (NamesFullRegion (M.blocks mem.new)) }
 {
     if bytes.is_empty() {

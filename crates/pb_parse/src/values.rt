@@ -1,16 +1,18 @@
 // Records of fields that hold numbers, texts and bytes.
 ghost use Rattle.std.specs.Prelude.{◌≡◌, ◌≢◌, ◌-◌, ◌+◌, ◌*◌, ◌<◌, ◌≤◌, ◌^◌, ◌∷◌, [], ℕ, List, Some, length, drop, true, IfOk, IfErr, IsOk, IsErr};
-ghost use Rattle.arena_mem.specs.Places.{NamesFullRegion};
+ghost use Rattle.std.specs.FinMap as fin;
+ghost use Rattle.arena_mem.specs.Places.{NamesFullRegion, used};
 ghost use Rattle.pb_schema.specs.Kinds.{value_type_of};
+ghost use Rattle.pb_schema.specs.Meter.{array_bytes, cleanups, string_bytes};
 ghost use Rattle.pb_schema.specs.Tree.{Shape, Number, Bytes};
 ghost use Rattle.dyn_message.specs.Feet.{Foot, InPlace};
 ghost use Rattle.dyn_message.specs.Stands.{Stands, IsSingle, IsList};
 ghost use Rattle.dyn_message.specs.Changes.{Changes, NowStands};
 ghost use Rattle.dyn_message.specs.Fields.{IsMessageIn, IsNumberType, IsBytesType};
-ghost use Rattle.dyn_message.specs.Lists.{ListsNumber, ListsBytes, with_appended};
+ghost use Rattle.dyn_message.specs.Lists.{ListsNumber, ListsBytes, count_at, element_bytes, with_appended};
 ghost use Rattle.dyn_message.specs.Rooms.{IsListAt};
 ghost use Rattle.msg_layout.specs.Layout.{entry_of};
-ghost use Rattle.pb_parse.specs.Parsing.{IsCause, IsFor, fits_kind};
+ghost use Rattle.pb_parse.specs.Parsing.{CostsTaken, IsCause, IsFor, fits_kind};
 ghost use Rattle.pb_parse.specs.Reading.{contents_read, record_at, with_taken};
 
 use crate::number::{keeps_small, next_number, number_at};
@@ -44,6 +46,7 @@ pub fn set_number<M: Memory>(
         → NowStands types.now (M.places mem.old) (M.buffers mem.old) (M.places mem.new) (M.buffers mem.new) msg (with_taken types.now left msg.type_no field (record_at found bytes.now) t) feet }
     ensures sound { (left : ℕ) → IsOk (contents_read types.now left field found bytes.now) }
     ensures changes { Changes M.key M.places M.buffers M.blocks 0 0 (InPlace msg.place ∷ []) mem.old mem.new }
+    ensures costs { (left : ℕ) (t : Shape) → CostsTaken types.now left (M.places mem.old) (M.buffers mem.old) (M.places mem.new) (M.buffers mem.new) msg field (record_at found bytes.now) t }
 {
     let Some((bits, _)) = number_at(bytes, found.payload, field.kind) else {
         unreachable!()
@@ -70,6 +73,7 @@ pub fn set_string<M: Memory>(
     ensures sound { IfOk result (λ _. (left : ℕ) → IsOk (contents_read types.now left field found bytes.now)) }
     ensures stopped { IfErr result (IsCause (M.blocks mem.new) ((left : ℕ) → IsErr (contents_read types.now left field found bytes.now))) }
     ensures changes { Changes M.key M.places M.buffers M.blocks 1 1 (InPlace msg.place ∷ []) mem.old mem.new }
+    ensures costs { IfOk result (λ _. (left : ℕ) (t : Shape) → CostsTaken types.now left (M.places mem.old) (M.buffers mem.old) (M.places mem.new) (M.buffers mem.new) msg field (record_at found bytes.now) t) }
 {
     let payload = &bytes[found.payload as usize..found.end as usize];
     if !is_string(field.kind, payload) {
@@ -115,6 +119,8 @@ pub fn append_number<M: Memory>(
     ensures sound { (left : ℕ) → IsOk (contents_read types.now left field found bytes.now) }
     ensures stopped { IfErr result (IsCause (M.blocks mem.new) ⊥) }
     ensures changes { (t : Shape) (feet : List Foot) → Stands types.now (M.places mem.old) (M.buffers mem.old) msg t feet → Changes M.key M.places M.buffers M.blocks 1 0 feet mem.old mem.new }
+    ensures costs { IfOk result (λ _. (left : ℕ) (t : Shape) (feet : List Foot) → Stands types.now (M.places mem.old) (M.buffers mem.old) msg t feet
+        → CostsTaken types.now left (M.places mem.old) (M.buffers mem.old) (M.places mem.new) (M.buffers mem.new) msg field (record_at found bytes.now) t) }
 {
     let Some((bits, _)) = number_at(bytes, found.payload, field.kind) else {
         unreachable!()
@@ -147,6 +153,8 @@ pub fn append_packed<M: Memory>(
     ensures sound { IfOk result (λ _. (left : ℕ) → IsOk (contents_read types.now left field found bytes.now)) }
     ensures stopped { IfErr result (IsCause (M.blocks mem.new) ((left : ℕ) → IsErr (contents_read types.now left field found bytes.now))) }
     ensures changes { (t : Shape) (feet : List Foot) → Stands types.now (M.places mem.old) (M.buffers mem.old) msg t feet → Changes M.key M.places M.buffers M.blocks found.payload_len 0 feet mem.old mem.new }
+    ensures costs { IfOk result (λ _. (left : ℕ) (t : Shape) (feet : List Foot) → Stands types.now (M.places mem.old) (M.buffers mem.old) msg t feet
+        → CostsTaken types.now left (M.places mem.old) (M.buffers mem.old) (M.places mem.new) (M.buffers mem.new) msg field (record_at found bytes.now) t) }
 {
     let _schema = types.schema();
     let front = &bytes[..found.end as usize];
@@ -188,6 +196,8 @@ pub fn append_string<M: Memory>(
     ensures sound { IfOk result (λ _. (left : ℕ) → IsOk (contents_read types.now left field found bytes.now)) }
     ensures stopped { IfErr result (IsCause (M.blocks mem.new) ((left : ℕ) → IsErr (contents_read types.now left field found bytes.now))) }
     ensures changes { (t : Shape) (feet : List Foot) → Stands types.now (M.places mem.old) (M.buffers mem.old) msg t feet → Changes M.key M.places M.buffers M.blocks 2 1 feet mem.old mem.new }
+    ensures costs { IfOk result (λ _. (left : ℕ) (t : Shape) (feet : List Foot) → Stands types.now (M.places mem.old) (M.buffers mem.old) msg t feet
+        → CostsTaken types.now left (M.places mem.old) (M.buffers mem.old) (M.places mem.new) (M.buffers mem.new) msg field (record_at found bytes.now) t) }
 {
     let payload = &bytes[found.payload as usize..found.end as usize];
     if !is_string(field.kind, payload) {
@@ -212,6 +222,9 @@ fn append_one<M: Memory>(
     ensures appended { IfOk result (λ _. (t : Shape) (feet : List Foot) → Stands types.now (M.places mem.old) (M.buffers mem.old) msg t feet
         → NowStands types.now (M.places mem.old) (M.buffers mem.old) (M.places mem.new) (M.buffers mem.new) msg (with_appended types.now msg.type_no number (Number bits) t) feet) }
     ensures changes { (t : Shape) (feet : List Foot) → Stands types.now (M.places mem.old) (M.buffers mem.old) msg t feet → Changes M.key M.places M.buffers M.blocks 1 0 feet mem.old mem.new }
+    ensures space { IfOk result (λ _. (t : Shape) (feet : List Foot) → Stands types.now (M.places mem.old) (M.buffers mem.old) msg t feet
+        → used (M.places mem.new) ≡ used (M.places mem.old) + array_bytes (element_bytes types.now msg.type_no number) (count_at types.now msg.type_no number t) (count_at types.now msg.type_no number t + 1)) }
+    ensures buffers { M.buffers mem.new ≡ M.buffers mem.old }
     ensures spent { IfErr result (NamesFullRegion (M.blocks mem.new)) }
 {
     if count(mem, types, msg, number) >= MOST_ELEMENTS {
@@ -241,6 +254,9 @@ fn append_next<M: Memory>(
     ensures told { IfOk result (λ next. IsListAt (M.places mem.new) msg.place entry.slot next (count + 1)) }
     ensures few { IfOk result (λ _. count < 2 ^ 26) }
     ensures changes { (t : Shape) (feet : List Foot) → Stands types.now (M.places mem.old) (M.buffers mem.old) msg t feet → Changes M.key M.places M.buffers M.blocks 1 0 feet mem.old mem.new }
+    ensures space { IfOk result (λ _. (t : Shape) (feet : List Foot) → Stands types.now (M.places mem.old) (M.buffers mem.old) msg t feet
+        → used (M.places mem.new) ≡ used (M.places mem.old) + array_bytes (element_bytes types.now msg.type_no number) (count_at types.now msg.type_no number t) (count_at types.now msg.type_no number t + 1)) }
+    ensures buffers { M.buffers mem.new ≡ M.buffers mem.old }
     ensures spent { IfErr result (NamesFullRegion (M.blocks mem.new)) }
 {
     if count >= MOST_ELEMENTS {
@@ -263,6 +279,9 @@ fn append_some<M: Memory>(
     ensures appended { IfOk result (λ _. (t : Shape) (feet : List Foot) → Stands types.now (M.places mem.old) (M.buffers mem.old) msg t feet
         → NowStands types.now (M.places mem.old) (M.buffers mem.old) (M.places mem.new) (M.buffers mem.new) msg (with_appended types.now msg.type_no number (Bytes bytes.now) t) feet) }
     ensures changes { (t : Shape) (feet : List Foot) → Stands types.now (M.places mem.old) (M.buffers mem.old) msg t feet → Changes M.key M.places M.buffers M.blocks 2 1 feet mem.old mem.new }
+    ensures space { IfOk result (λ _. (t : Shape) (feet : List Foot) → Stands types.now (M.places mem.old) (M.buffers mem.old) msg t feet
+        → used (M.places mem.new) ≡ used (M.places mem.old) + string_bytes (length bytes.now) + array_bytes 24 (count_at types.now msg.type_no number t) (count_at types.now msg.type_no number t + 1)) }
+    ensures kept { IfOk result (λ _. fin.len (M.buffers mem.new) ≡ fin.len (M.buffers mem.old) + cleanups.bytes (length bytes.now)) }
     ensures spent { IfErr result (NamesFullRegion (M.blocks mem.new)) }
 {
     if count(mem, types, msg, number) >= MOST_ELEMENTS {

@@ -1,7 +1,7 @@
 use Rattle.std.proofs.Common.{[], refl, ◌∙◌, arith}
 use Rattle.dyn_message.proofs.Opening.{some_record}
-use Rattle.pb_parse.proofs.Memories.{nothing_changes, record_changes, stays, then_within}
-use Rattle.pb_parse.proofs.RecordCame.{came_more}
+use Rattle.pb_parse.proofs.Memories.{nothing_changes, record_changes, then_within}
+use Rattle.pb_parse.proofs.RecordCame.{came_none, came_more}
 use Rattle.pb_parse.proofs.short.put_front.Goals as goal
 
 pub records-init : goal.records-init
@@ -11,11 +11,7 @@ records-init g c =
       message = c.requires.message;
       within = omega arith;
       walk = λ left. refl;
-      came = λ left t feet st. record {
-        shape = t;
-        stands = stays c.args.types.now (M.places c.args.mem.now) (M.buffers c.args.mem.now) c.args.msg t feet st;
-        goes = λ stop ok. refl;
-      };
+      came = λ left t feet st. came_none c.args.types.now left (M.places c.args.mem.now) (M.buffers c.args.mem.now) c.args.msg c.args.bytes.now 0 [] t feet st;
       changes = λ t feet st. nothing_changes M.key M.places M.buffers M.blocks feet c.args.mem.now;
     }
 

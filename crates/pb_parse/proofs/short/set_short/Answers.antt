@@ -1,7 +1,9 @@
 use Rattle.std.proofs.Common.{refl, sym, subst}
 use Rattle.pb_schema.specs.Fitted.{IsPatternOf}
 use Rattle.pb_parse.proofs.ContentsLaws.{field_there}
+use Rattle.pb_parse.proofs.Memories.{all_entries}
 use Rattle.pb_parse.proofs.ShortRecords.{is_number_kind, short_walk, short_came}
+use Rattle.pb_parse.proofs.Spending.{nothing_placed}
 use Rattle.pb_parse.proofs.TakenShapes.{number_coding}
 use Rattle.pb_schema.specs.Kinds.{value_type_of}
 use Rattle.pb_parse.proofs.short.set_short.Goals as goal
@@ -20,4 +22,7 @@ pub returns-clause-came : goal.returns-clause-came
 returns-clause-came g c = λ left unknown t feet st.
     let M = g.M.Memory in
     short_came c.args.types.now c.args.msg.type_no c.args.bytes.now c.args.at c.args.short.number c.args.short.entry c.args.short.payload c.args.short.end c.args.short.bits c.requires.found
-    c.schema-schema.ensures.lawful left unknown (M.places c.args.mem.now) (M.buffers c.args.mem.now) (M.places c.set_scalar_by.new.mem) (M.buffers c.set_scalar_by.new.mem) c.args.msg t feet refl (c.set_scalar_by.ensures.set t feet st)
+    c.schema-schema.ensures.lawful left unknown (M.places c.args.mem.now) (M.buffers c.args.mem.now) (M.places c.set_scalar_by.new.mem) (M.buffers c.set_scalar_by.new.mem) c.args.msg t feet refl
+    (all_entries c.args.types.now (M.places c.args.mem.now) (M.buffers c.args.mem.now) c.args.msg t feet st)
+    (nothing_placed c.args.types.now (M.places c.args.mem.now) (M.places c.set_scalar_by.new.mem) (M.buffers c.args.mem.now) (M.buffers c.set_scalar_by.new.mem) c.set_scalar_by.ensures.space c.set_scalar_by.ensures.buffers)
+    (c.set_scalar_by.ensures.set t feet st)

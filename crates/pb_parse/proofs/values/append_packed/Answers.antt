@@ -1,14 +1,19 @@
-use Rattle.std.proofs.Common.{◌≡◌, ◌+◌, ◌-◌, ◌<◌, ◌≤◌, sym, ap, ◌∙◌, subst, length, drop, take, arith, length-drop, length-take-le}
+use Rattle.std.proofs.Common.{◌≡◌, ◌+◌, ◌-◌, ◌<◌, ◌≤◌, refl, sym, ap, ◌∙◌, subst, length, drop, take, arith, length-drop, length-take-le}
 use Rattle.pb_schema.specs.Fitted.{IsPatternOf}
 use Rattle.pb_schema.specs.Kinds.{value_type_of}
 use Rattle.pb_schema.specs.Walk.{numbers_end}
 use Rattle.dyn_message.specs.Changes.{NowStands}
 use Rattle.dyn_message.proofs.Opening.{some_record}
-use Rattle.pb_parse.specs.Reading.{payload_at}
+use Rattle.pb_schema.specs.TreeOf.{elements_from}
+use Rattle.dyn_message.specs.Lists.{count_at, element_bytes}
+use Rattle.pb_parse.specs.Costs.{taken_cost}
+use Rattle.pb_parse.specs.Reading.{payload_at, record_at}
+use Rattle.pb_parse.proofs.CostArms.{numbers_cost}
+use Rattle.pb_parse.proofs.Spending.{costs_by}
 use Rattle.pb_parse.proofs.ContentsRead.{ok_is, err_is, packed_holds, payload_front}
 use Rattle.pb_parse.proofs.Memories.{nothing_changes, then_within, within_more}
 use Rattle.pb_parse.proofs.NumberSteps.{numbers_step, numbers_bad, numbers_none}
-use Rattle.pb_parse.proofs.Packed.{PackedTo, packed_none, packed_more, packed_all}
+use Rattle.pb_parse.proofs.Packed.{PackedTo, packed_none, packed_more, packed_all, packed_costs}
 use Rattle.pb_parse.proofs.Runs.{left_behind, none_left, some_left}
 use Rattle.pb_parse.proofs.TakenShapes.{number_coding, packed_listed}
 use Rattle.pb_parse.proofs.values.append_packed.Goals as goal
@@ -101,7 +106,7 @@ loop-at-preserved g c =
           subst (λ s. PackedTo schema (M.places c.args.mem.now) (M.buffers c.args.mem.now) (M.places c.append_next.new.mem) (M.buffers c.append_next.new.mem) c.args.msg c.args.field.number coding (payload_at found bytes) s t feet) (left_behind at behind front before)
           (packed_more schema c.args.msg c.args.field.number coding c.args.field c.requires.taken.known (M.places c.args.mem.now) (M.places c.loop-at.mem) (M.places c.append_next.new.mem) (M.buffers c.args.mem.now) (M.buffers c.loop-at.mem) (M.buffers c.append_next.new.mem)
           (payload_at found bytes) (drop at front) t feet at (behind - at) c.in-Some.bits (inv.changes t feet st).still_there q own.0 some within own.3
-          (c.in-Ok.ensures.appended q.shape q.stands.now q.stands.stands));
+          (c.in-Ok.ensures.appended q.shape q.stands.now q.stands.stands) (c.in-Ok.ensures.space q.shape q.stands.now q.stands.stands) c.append_next.ensures.buffers);
       told = c.in-Ok.ensures.told;
       changes = λ t feet st.
           let q = inv.put k.0 k.1 t feet st in
@@ -129,3 +134,21 @@ returns-clause-sound g c = λ left.
     ok_is _ c.loop-at.at
     (packed_holds c.args.types.now left c.args.field c.args.found c.args.bytes.now k.0 k.1 c.requires.packed
     ∙ (c.loop-at.invariant.walk k.0 k.1 ∙ (ap (numbers_end k.0.wire c.loop-at.at 0) none ∙ numbers_none k.0.wire c.loop-at.at)))
+
+pub returns-clause-costs : goal.returns-clause-costs
+returns-clause-costs g c = λ left t feet st.
+    let M = g.M.Memory in
+    let schema = c.args.types.now in
+    let found = c.args.found in
+    let bytes = c.args.bytes.now in
+    let type_no = c.args.msg.type_no in
+    let field = c.args.field in
+    let before = count_at schema type_no field.number t in
+    let size = element_bytes schema type_no field.number in
+    let k = number_coding (value_type_of field.kind) c.requires.number in
+    let none = none_left c.loop-at.at found.end bytes c.loop-at-test.false in
+    let long = length (elements_from k.0.wire 0 (payload_at found bytes)) in
+    costs_by schema (M.places c.args.mem.now) (M.places c.loop-at.mem) (M.buffers c.args.mem.now) (M.buffers c.loop-at.mem)
+    (λ meter. meter.growth size before (before + long)) (λ meter. taken_cost meter schema left type_no field (record_at found bytes) t)
+    (packed_costs schema c.args.msg field.number k.0 field c.requires.taken.known (M.places c.args.mem.now) (M.places c.loop-at.mem) (M.buffers c.args.mem.now) (M.buffers c.loop-at.mem) (payload_at found bytes) _ t feet none (c.loop-at.invariant.put k.0 k.1 t feet st))
+    (λ meter grows. numbers_cost meter schema left type_no field (record_at found bytes) t k.0 long k.1 c.requires.list c.requires.taken.known refl)

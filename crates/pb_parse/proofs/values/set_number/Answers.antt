@@ -1,8 +1,11 @@
 use Rattle.std.proofs.Common.{sym, subst}
 use Rattle.dyn_message.specs.Changes.{NowStands}
 use Rattle.pb_schema.specs.Fitted.{IsPatternOf}
+use Rattle.pb_parse.specs.Costs.{taken_cost}
 use Rattle.pb_parse.specs.Reading.{record_at}
 use Rattle.pb_parse.proofs.ContentsRead.{ok_is, number_holds}
+use Rattle.pb_parse.proofs.CostArms.{number_free}
+use Rattle.pb_parse.proofs.Spending.{costs_by, nothing_placed}
 use Rattle.pb_parse.proofs.TakenShapes.{number_coding, number_shape}
 use Rattle.pb_parse.proofs.ValuesRead.{single_wire, no_value_none, value_is}
 use Rattle.pb_schema.specs.Kinds.{value_type_of}
@@ -37,3 +40,13 @@ returns-clause-sound g c = λ left.
     let k = number_coding (value_type_of c.args.field.kind) c.requires.number in
     let other = single_wire c.args.types.now c.args.field (record_at c.args.found c.args.bytes.now) k.0 c.requires.taken.taken k.1 c.requires.single in
     ok_is _ _ (number_holds c.args.types.now left c.args.field c.args.found c.args.bytes.now k.0 k.1 other)
+
+pub returns-clause-costs : goal.returns-clause-costs
+returns-clause-costs g c = λ left t.
+    let M = g.M.Memory in
+    let schema = c.args.types.now in
+    let r = record_at c.args.found c.args.bytes.now in
+    let k = number_coding (value_type_of c.args.field.kind) c.requires.number in
+    costs_by schema (M.places c.args.mem.now) (M.places c.set_scalar.new.mem) (M.buffers c.args.mem.now) (M.buffers c.set_scalar.new.mem) (λ meter. 0) (λ meter. taken_cost meter schema left c.args.msg.type_no c.args.field r t)
+    (nothing_placed schema (M.places c.args.mem.now) (M.places c.set_scalar.new.mem) (M.buffers c.args.mem.now) (M.buffers c.set_scalar.new.mem) c.set_scalar.ensures.space c.set_scalar.ensures.buffers)
+    (λ meter grows. number_free meter schema left c.args.msg.type_no c.args.field r t k.0 k.1 c.requires.single)

@@ -1,8 +1,12 @@
-use Rattle.std.proofs.Common.{sym, ap, ◌∙◌, subst}
+use Rattle.std.proofs.Common.{◌-◌, length, take, drop, sym, ap, ◌∙◌, subst}
 use Rattle.pb_parse.proofs.ContentsRead.{ok_is, err_is, payload_cut, string_holds, string_broken}
 use Rattle.pb_parse.specs.Parsing.{fits_kind}
 use Rattle.pb_schema.specs.Kinds.{value_type_of}
 use Rattle.dyn_message.specs.Changes.{NowStands}
+use Rattle.pb_parse.specs.Costs.{taken_cost}
+use Rattle.pb_parse.specs.Reading.{record_at}
+use Rattle.pb_parse.proofs.CostArms.{string_counts}
+use Rattle.pb_parse.proofs.Spending.{costs_both, costs_by}
 use Rattle.pb_parse.proofs.TakenShapes.{string_shape}
 use Rattle.pb_parse.proofs.values.set_string.Goals as goal
 
@@ -23,3 +27,14 @@ returns-in-Ok-clause-put g c = λ left t feet st.
     subst (λ u. NowStands schema (M.places c.args.mem.now) (M.buffers c.args.mem.now) (M.places c.set_bytes.new.mem) (M.buffers c.set_bytes.new.mem) c.args.msg u feet)
     (string_shape schema left c.args.msg.type_no c.args.found c.args.bytes.now c.args.field t _ c.requires.taken.known c.requires.bytes c.requires.single (payload_cut c.args.found c.args.bytes.now c.requires.taken.payload))
     (c.in-Ok.ensures.set t feet st)
+
+pub returns-in-Ok-clause-costs : goal.returns-in-Ok-clause-costs
+returns-in-Ok-clause-costs g c = λ left t.
+    let M = g.M.Memory in
+    let schema = c.args.types.now in
+    let found = c.args.found in
+    let bytes = c.args.bytes.now in
+    let payload = take (found.end - found.payload) (drop found.payload bytes) in
+    costs_by schema (M.places c.args.mem.now) (M.places c.set_bytes.new.mem) (M.buffers c.args.mem.now) (M.buffers c.set_bytes.new.mem) (λ meter. meter.bytes (length payload)) (λ meter. taken_cost meter schema left c.args.msg.type_no c.args.field (record_at found bytes) t)
+    (costs_both schema (M.places c.args.mem.now) (M.places c.set_bytes.new.mem) (M.buffers c.args.mem.now) (M.buffers c.set_bytes.new.mem) (λ meter. meter.bytes (length payload)) c.in-Ok.ensures.space c.in-Ok.ensures.kept)
+    (λ meter grows. string_counts meter schema left c.args.msg.type_no c.args.field (record_at found bytes) t c.requires.bytes c.requires.single ∙ ap (λ s. meter.bytes (length s)) (sym (payload_cut found bytes c.requires.taken.payload)))
