@@ -22,13 +22,15 @@ use Rattle.pb_schema.specs.TreeOf.{unknown_in, unknown_of, records_in}
 use Rattle.pb_schema.specs.Walk.{Stop, record_left}
 use Rattle.pb_schema.proofs.CostLaws.{cost_later, cost_of_none}
 use Rattle.pb_schema.proofs.PutLaws.{shape_none}
-use Rattle.pb_parse.specs.Costs.{record_more, nest_left, more_below, taken_cost, read_cost, rest_cost}
+use Rattle.arena_mem.specs.Places.{Places, Buffers}
+use Rattle.pb_parse.specs.Costs.{Costs, record_more, nest_left, more_below, taken_cost, read_cost, rest_cost}
 use Rattle.pb_parse.specs.Reading.{onto_left, read_left, walked}
 use Rattle.pb_parse.specs.Whole.{payload_cost}
 use Rattle.pb_parse.proofs.CostSteps.{CountsBelow, counted, all_counted, among_all, fields_step, fields_free, more_later, cost_first}
 use Rattle.pb_parse.proofs.FieldFound.{ascend_in, taken_number, found_here, found_later, first_left, none_above, taken_among}
 use Rattle.pb_parse.proofs.PutSteps.{put_taken, put_left}
 use Rattle.pb_parse.proofs.RecordSteps.{records_next}
+use Rattle.pb_parse.proofs.Spending.{nothing_spent}
 
 -- ONE LEVEL DEEPER
 
@@ -207,3 +209,8 @@ pub no_pieces : (meter : Meter) → GrowsInParts meter → (before : ℕ) → pi
 no_pieces meter grows before =
     let none : before + 0 ≡ before = omega arith in
     omega (arith, ap (meter.growth (slot_of Octets) before) none, grows.none (slot_of Octets) before)
+
+-- and no unknown bytes give none
+pub no_unknown : (schema : Schema) (places : Places) (buffers : Buffers) (before : ℕ) (s : List ℕ) → s ≡ [] → Costs schema places buffers places buffers (λ meter. pieces_cost meter before (piece s))
+no_unknown schema places buffers before s none =
+    nothing_spent schema places buffers (λ meter. pieces_cost meter before (piece s)) (λ meter. 0) (λ meter grows. ap (λ x. pieces_cost meter before (piece x)) none ∙ no_pieces meter grows before)

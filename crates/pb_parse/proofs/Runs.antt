@@ -29,7 +29,7 @@ left_behind a b s h =
     let sum : a + (b - a) ≡ b = omega (arith, h) in
     drop-drop (b - a) a s ∙ ap (λ n. drop n s) sum
 
-no_bytes : (s : List ℕ) → length s ≡ 0 → s ≡ []
+pub no_bytes : (s : List ℕ) → length s ≡ 0 → s ≡ []
 no_bytes [] e = refl
 no_bytes (x ∷ s) e = absurd (omega (arith, e))
 
