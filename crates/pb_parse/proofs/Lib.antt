@@ -26,3 +26,4 @@ pub mod FieldsOpen
 pub mod Spending
 pub mod CostArms
 pub mod CostCame
+pub mod CostNested

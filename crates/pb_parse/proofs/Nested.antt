@@ -38,6 +38,13 @@ pub if_ok : {T E : Type 0} (P Q : T → Type 0) (r : Result T E) → ((x : T) �
 if_ok P Q (Ok x) f h = f x h
 if_ok P Q (Err e) f h = tt
 
+pub all_ok : {T E : Type 0} (P : T → Type 0) (r : Result T E) → ((x : T) → P x) → IfOk r P
+all_ok P (Ok x) f = f x
+all_ok P (Err e) f = tt
+
+pub same_both : {A B : Type 0} (P : A → B → Type 0) (a a' : A) (b b' : B) → a ≡ a' → b ≡ b' → P a b → P a' b'
+same_both P a a' b b' e f p = subst (λ x. P x b') e (subst (λ y. P a y) f p)
+
 pub if_err : {T E : Type 0} (P Q : E → Type 0) (r : Result T E) → ((e : E) → P e → Q e) → IfErr r P → IfErr r Q
 if_err P Q (Ok x) f h = tt
 if_err P Q (Err e) f h = f e h
@@ -91,7 +98,7 @@ module _ (schema : Schema) (p0 p1 : Places) (b0 b1 : Buffers) (msg : MsgRef) (t 
   abbrev before : Shape
   before = sub_or (empty_with [] (fields_of schema child.type_no)) (held_at schema msg.type_no field.number t)
 
-  made_tree : (made : HasMadeSub schema p0 b0 p1 b1 msg t feet field.number child) → made.has.tree ≡ before
+  pub made_tree : (made : HasMadeSub schema p0 b0 p1 b1 msg t feet field.number child) → made.has.tree ≡ before
   made_tree made =
       ap (sub_or (empty_with [] (fields_of schema child.type_no)))
       (sym made.has.held ∙ get_after_set schema msg.type_no field.number field (One (Sub before)) t known (all_entries schema p0 b0 msg t feet st))
@@ -122,7 +129,7 @@ module _ (schema : Schema) (p0 p1 : Places) (b0 b1 : Buffers) (msg : MsgRef) (t 
   abbrev none : Shape
   none = empty_with [] (fields_of schema child.type_no)
 
-  appended_tree : (made : HasAppended schema p0 b0 p1 b1 msg t feet field.number child) → made.has.tree ≡ none
+  pub appended_tree : (made : HasAppended schema p0 b0 p1 b1 msg t feet field.number child) → made.has.tree ≡ none
   appended_tree made =
       ap (λ v. sub_or none (One v))
       (same_Some (Sub made.has.tree) (Sub none)
