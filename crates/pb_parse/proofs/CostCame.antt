@@ -1,7 +1,9 @@
 -- What a record that was found at a place of some bytes counts there, and what all of them do.
 use Rattle.std.proofs.Common.{◌≡◌, ℕ, ◌+◌, ◌-◌, true, false, List, [], ◌++◌, length, take, drop, Ok, Some, refl, sym, ap, ◌∙◌, subst, arith, drop-drop}
 use Rattle.std.specs.Prelude.{IsOk}
-use Rattle.arena_mem.specs.Places.{Places, Buffers}
+use Rattle.std.specs.FinMap as map
+use Rattle.arena_mem.specs.Places.{Places, Buffers, used}
+use Rattle.msg_layout.specs.Layout.{layout_of}
 use Rattle.pb_schema.specs.declared.kind.FieldType.{FieldType}
 use Rattle.pb_schema.specs.declared.schema.Schema.{Schema}
 use Rattle.pb_schema.specs.Broken.{most_levels}
@@ -10,25 +12,27 @@ use Rattle.pb_schema.specs.Fits.{fields_of, takes, is_taken}
 use Rattle.pb_schema.specs.Form.{Form}
 use Rattle.pb_schema.specs.HeldAt.{field_at, held_at, with_held}
 use Rattle.pb_schema.specs.Lawful.{Lawful}
-use Rattle.pb_schema.specs.Meter.{Meter, GrowsInParts}
+use Rattle.pb_schema.specs.Meter.{Meter, GrowsInParts, cleanups}
 use Rattle.pb_schema.specs.ParseCost.{pieces_cost}
 use Rattle.pb_schema.specs.Put.{taken_put}
 use Rattle.pb_schema.specs.Record.{Record, record_of}
 use Rattle.pb_schema.specs.ShapeOf.{piece}
 use Rattle.pb_schema.specs.Tree.{Shape, fields_held, unknown_held, fields_in_list}
 use Rattle.pb_schema.specs.Walk.{Stop, record_left}
+use Rattle.pb_schema.proofs.MeterLaws.{cleanups_in_parts}
 use Rattle.pb_wire.specs.declared.wire_record.WireRecord.{WireRecord}
 use Rattle.pb_wire.specs.PlacedRecord.{placed}
 use Rattle.dyn_message.specs.declared.msg_ref.MsgRef.{MsgRef}
 use Rattle.dyn_message.specs.Feet.{Foot}
-use Rattle.pb_parse.specs.Costs.{Costs, Spends, read_cost, rest_cost, taken_cost}
+use Rattle.pb_parse.specs.Costs.{Costs, Spends, read_cost, record_meter, rest_cost, taken_cost}
 use Rattle.pb_parse.specs.Parsing.{Came}
 use Rattle.pb_parse.specs.Reading.{contents_read, onto_left, record_at, untyped, walked, with_taken}
+use Rattle.pb_parse.specs.Whole.{payload_cost}
 use Rattle.pb_parse.proofs.ContentsRead.{some_ok}
-use Rattle.pb_parse.proofs.CostLaws.{no_pieces, rest_begun, rest_ended, rest_other, rest_taken}
+use Rattle.pb_parse.proofs.CostLaws.{no_pieces, rest_begun, rest_ended, rest_other, rest_taken, whole_cost}
 use Rattle.pb_parse.proofs.RecordCame.{FoundAt, left_whole, same_record, taken_whole}
 use Rattle.pb_parse.proofs.RecordSteps.{walk_end}
-use Rattle.pb_parse.proofs.Spending.{costs_by, nothing_spent, spends_then}
+use Rattle.pb_parse.proofs.Spending.{costs_by, nothing_spent, records_grow, spends_then}
 
 -- A RECORD AT A PLACE
 
@@ -121,3 +125,9 @@ then_counts schema left p0 p1 p2 b0 b1 b2 msg bytes at next t feet sound c spent
     (costs_by schema p1 p2 b1 b2 (λ meter. read_cost meter schema left msg.type_no c.shape (drop next bytes)) (λ meter. rest_cost meter schema left msg.type_no c.shape [] (drop next bytes)) spent
     (λ meter grows. sym (rest_begun meter grows schema left msg.type_no c.shape (drop next bytes)))))
     (λ meter grows. rest_begun meter grows schema left msg.type_no t (drop at bytes))
+
+-- a payload that is read into the empty message counts what it does by itself, less the record that is there
+pub whole_spent : (schema : Schema) (p0 p1 : Places) (b0 b1 : Buffers) (type_no : ℕ) (s : List ℕ) → Costs schema p0 b0 p1 b1 (λ meter. read_cost meter schema most_levels type_no (empty_with [] (fields_of schema type_no)) s)
+    → (used p1 + (layout_of schema type_no).size ≡ used p0 + payload_cost (record_meter schema) schema type_no s) × (map.len b1 ≡ map.len b0 + payload_cost cleanups schema type_no s)
+whole_spent schema p0 p1 b0 b1 type_no s spent =
+    (omega (arith, spent.space, whole_cost (record_meter schema) (records_grow schema) schema type_no s), omega (arith, spent.kept, whole_cost cleanups cleanups_in_parts schema type_no s))

@@ -6,6 +6,7 @@ use Rattle.dyn_message.specs.Feet.{InPlace}
 use Rattle.dyn_message.specs.Changes.{NowStands}
 use Rattle.pb_parse.specs.Parsing.{IsCause}
 use Rattle.pb_parse.specs.Reading.{walked}
+use Rattle.pb_parse.proofs.CostCame.{then_counts, whole_counts, whole_spent}
 use Rattle.pb_parse.proofs.Memories.{then_within, within_more}
 use Rattle.pb_parse.proofs.RecordCame.{came_then, came_whole, walk_whole}
 use Rattle.pb_parse.proofs.Runs.{all_left}
@@ -86,6 +87,28 @@ returns-in-Err-Refused-BlocksSpent-clause-changes g c =
     then_within M.key M.places M.buffers M.blocks 0 left 0 left (4 * length c.args.bytes.now + 3) (4 * length c.args.bytes.now + 3) feet q.stands.now c.args.mem.now c.put_front-start.new.mem c.parse_message.new.mem
     (front.changes empty feet c.requires.empty) q.stands.from (c.parse_message.ensures.changes q.shape q.stands.now q.stands.stands) (omega arith) (omega arith)
 
+pub returns-in-Ok-clause-space : goal.returns-in-Ok-clause-space
+returns-in-Ok-clause-space g c =
+    let M = g.M.Memory in
+    let schema = c.args.types.now in
+    let feet = InPlace c.args.msg.place ∷ [] in
+    let empty = empty_with [] (fields_of schema c.args.msg.type_no) in
+    let q = c.put_front-start.ensures.came 100 empty feet c.requires.empty in
+    (whole_spent schema (M.places c.args.mem.now) (M.places c.parse_message.new.mem) (M.buffers c.args.mem.now) (M.buffers c.parse_message.new.mem) c.args.msg.type_no c.args.bytes.now
+    (then_counts schema 100 (M.places c.args.mem.now) (M.places c.put_front-start.new.mem) (M.places c.parse_message.new.mem) (M.buffers c.args.mem.now) (M.buffers c.put_front-start.new.mem) (M.buffers c.parse_message.new.mem) c.args.msg c.args.bytes.now 0 c.put_front-start.result
+    empty feet c.in-Ok.ensures.sound q (c.in-Ok.ensures.costs q.shape q.stands.now q.stands.stands))).0
+
+pub returns-in-Ok-clause-kept : goal.returns-in-Ok-clause-kept
+returns-in-Ok-clause-kept g c =
+    let M = g.M.Memory in
+    let schema = c.args.types.now in
+    let feet = InPlace c.args.msg.place ∷ [] in
+    let empty = empty_with [] (fields_of schema c.args.msg.type_no) in
+    let q = c.put_front-start.ensures.came 100 empty feet c.requires.empty in
+    (whole_spent schema (M.places c.args.mem.now) (M.places c.parse_message.new.mem) (M.buffers c.args.mem.now) (M.buffers c.parse_message.new.mem) c.args.msg.type_no c.args.bytes.now
+    (then_counts schema 100 (M.places c.args.mem.now) (M.places c.put_front-start.new.mem) (M.places c.parse_message.new.mem) (M.buffers c.args.mem.now) (M.buffers c.put_front-start.new.mem) (M.buffers c.parse_message.new.mem) c.args.msg c.args.bytes.now 0 c.put_front-start.result
+    empty feet c.in-Ok.ensures.sound q (c.in-Ok.ensures.costs q.shape q.stands.now q.stands.stands))).1
+
 -- WHERE THE FRONT IS ALL
 
 pub returns-then-start-bytes-clause-stands : goal.returns-then-start-bytes-clause-stands
@@ -120,3 +143,23 @@ returns-then-start-bytes-clause-changes g c =
     (c.put_front-start.ensures.changes (empty_with [] (fields_of c.args.types.now c.args.msg.type_no)) feet c.requires.empty)
     (omega arith)
     (omega arith)
+
+pub returns-then-start-bytes-clause-space : goal.returns-then-start-bytes-clause-space
+returns-then-start-bytes-clause-space g c =
+    let M = g.M.Memory in
+    let schema = c.args.types.now in
+    let feet = InPlace c.args.msg.place ∷ [] in
+    let empty = empty_with [] (fields_of schema c.args.msg.type_no) in
+    (whole_spent schema (M.places c.args.mem.now) (M.places c.put_front-start.new.mem) (M.buffers c.args.mem.now) (M.buffers c.put_front-start.new.mem) c.args.msg.type_no c.args.bytes.now
+    (whole_counts schema 100 (M.places c.args.mem.now) (M.places c.put_front-start.new.mem) (M.buffers c.args.mem.now) (M.buffers c.put_front-start.new.mem) c.args.msg c.args.bytes.now 0 c.put_front-start.result
+    empty feet (all_left c.put_front-start.result c.args.bytes.now (omega (arith, c.if-start-bytes.true))) (c.put_front-start.ensures.came 100 empty feet c.requires.empty))).0
+
+pub returns-then-start-bytes-clause-kept : goal.returns-then-start-bytes-clause-kept
+returns-then-start-bytes-clause-kept g c =
+    let M = g.M.Memory in
+    let schema = c.args.types.now in
+    let feet = InPlace c.args.msg.place ∷ [] in
+    let empty = empty_with [] (fields_of schema c.args.msg.type_no) in
+    (whole_spent schema (M.places c.args.mem.now) (M.places c.put_front-start.new.mem) (M.buffers c.args.mem.now) (M.buffers c.put_front-start.new.mem) c.args.msg.type_no c.args.bytes.now
+    (whole_counts schema 100 (M.places c.args.mem.now) (M.places c.put_front-start.new.mem) (M.buffers c.args.mem.now) (M.buffers c.put_front-start.new.mem) c.args.msg c.args.bytes.now 0 c.put_front-start.result
+    empty feet (all_left c.put_front-start.result c.args.bytes.now (omega (arith, c.if-start-bytes.true))) (c.put_front-start.ensures.came 100 empty feet c.requires.empty))).1
