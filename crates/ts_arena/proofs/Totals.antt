@@ -116,22 +116,18 @@ kept_count r n (x ∷ xs) = len-kept (from_entries (numbered r (suc n) xs)) (rec
 
 -- ---- an arena
 module _ (a : ArenaState) (is : IsArena a) where
-  pub used_whole : used (arena_places a) ≡ arena_used a
-  unfolding used all_places
-  used_whole =
-      sum_joined places_total exact_places places_of (λ (p : Place). p.region) place_named (λ (p : Place). p.len) (parts_of a) (regions_differ a is)
-      ∙ sum_each (λ (s : SerialState). used (places_of s)) used_of (parts_of a) (λ k s at. used_is s (serial_of a is s (part_there a k s at)).laid)
+  -- its sums are those of the maps of its parts
+  pub used_parts : sum_by (λ (s : SerialState). used (places_of s)) (parts_of a) ≡ arena_used a
+  used_parts =
+      sum_each (λ (s : SerialState). used (places_of s)) used_of (parts_of a) (λ k s at. used_is s (serial_of a is s (part_there a k s at)).laid)
       ∙ sum_parts used_of a.owners a.adopted
 
-  pub registered_whole : len (arena_buffers a) ≡ arena_registered a
-  unfolding all_buffers
-  registered_whole =
-      sym (count_is (arena_buffers a))
-      ∙ sum_joined buffers_total exact_buffers buffers_of (λ (b : Buffer). b.region) buffer_named one (parts_of a) (regions_differ a is)
-      ∙ sum_each (λ (s : SerialState). key_sum one (buffers_of s)) registered_of (parts_of a) (λ k s at. count_is (buffers_of s) ∙ kept_count s.region 0 s.kept)
+  pub registered_parts : sum_by (λ (s : SerialState). len (buffers_of s)) (parts_of a) ≡ arena_registered a
+  registered_parts =
+      sum_each (λ (s : SerialState). len (buffers_of s)) registered_of (parts_of a) (λ k s at. kept_count s.region 0 s.kept)
       ∙ sum_parts registered_of a.owners a.adopted
 
-  -- and it has as many places and buffers as its parts together
+  -- it has as many places and buffers as its parts together
   pub places_whole : len (arena_places a) ≡ sum_by (λ (s : SerialState). len (places_of s)) (parts_of a)
   unfolding all_places
   places_whole =
@@ -145,3 +141,13 @@ module _ (a : ArenaState) (is : IsArena a) where
       sym (count_is (arena_buffers a))
       ∙ sum_joined buffers_total exact_buffers buffers_of (λ (b : Buffer). b.region) buffer_named one (parts_of a) (regions_differ a is)
       ∙ sum_each (λ (s : SerialState). key_sum one (buffers_of s)) (λ (s : SerialState). len (buffers_of s)) (parts_of a) (λ k s at. count_is (buffers_of s))
+
+  -- and its sums are those of its own maps
+  pub used_whole : used (arena_places a) ≡ arena_used a
+  unfolding used all_places
+  used_whole =
+      sum_joined places_total exact_places places_of (λ (p : Place). p.region) place_named (λ (p : Place). p.len) (parts_of a) (regions_differ a is)
+      ∙ used_parts
+
+  pub registered_whole : len (arena_buffers a) ≡ arena_registered a
+  registered_whole = buffers_whole ∙ registered_parts
