@@ -35,6 +35,7 @@ module _ (ph : PhaseState) (passes passes' : List Pass) (caches caches' : List C
     pub last_there : get_elem? passes' k ≡ some last
     pub cache : CacheState
     pub cache_there : get_elem? caches k ≡ some cache
+    pub number_is : new.number ≡ k
     pub turns : ℕ
     pub turned : HasTurned ph k turns first cache last new.cache new.results
 
@@ -58,6 +59,7 @@ module _ (ph : PhaseState) (passes passes' : List Pass) (caches caches' : List C
         last_there = q.1;
         cache = c.0;
         cache_there = c.1;
+        number_is = did.number_is ∙ seat.number_is;
         turns = did.turns;
         turned = subst (λ (n : ℕ). HasTurned ph n did.turns p.0 c.0 q.0 w.0.cache w.0.results) seat.number_is
             (subst (λ (x : CacheState). HasTurned ph s.0.number did.turns p.0 x q.0 w.0.cache w.0.results) seat.cache_is

@@ -46,6 +46,7 @@ leaves_none schema root first payloads workers a caches messages fit = record {
   caches_are = record { count = refl; each = λ k old new at_old at_new. inl (some-injective new old (sym at_new ∙ at_old)) };
   fit = fit;
   parsed = λ done. absurd (no_memory_done done);
+  costs = λ done. absurd (no_memory_done done);
   early = λ done. absurd (no_memory_done done);
   bad = λ index fault is. absurd (no_memory_bad index fault is);
   spent = λ region is. absurd (no_memory_spent region is);

@@ -31,7 +31,7 @@ sum_none : (n : ℕ) → sum_to n (λ k. 0) ≡ 0
 sum_none zero = refl
 sum_none (suc n) = omega (arith, sum_none n)
 
-same_or_less : (m n : ℕ) → m < suc n → (m ≡ n) ⊎ (m < n)
+pub same_or_less : (m n : ℕ) → m < suc n → (m ≡ n) ⊎ (m < n)
 same_or_less zero zero below = inl refl
 same_or_less zero (suc n) below = inr (omega arith)
 same_or_less (suc m) zero below = absurd (omega (arith, below))
@@ -97,7 +97,7 @@ sum_some (suc n) x ks differ low =
 -- FRAMES
 
 -- what the frames below this one count that this worker takes, where there are so many workers
-pub dealt : ℕ → (ℕ → ℕ) → ℕ → ℕ → ℕ
+unfoldable pub dealt : ℕ → (ℕ → ℕ) → ℕ → ℕ → ℕ
 dealt n g zero k = 0
 dealt n g (suc m) k = dealt n g m k + cond (eqb (m % n) k) (g m) 0
 

@@ -15,6 +15,8 @@ pub mod Begun
 pub mod Sides
 pub mod Spent
 pub mod Bounds
+pub mod Exact
 pub mod Totalled
+pub mod Costed
 pub mod Settling
 pub mod Collecting

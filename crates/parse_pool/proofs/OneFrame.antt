@@ -11,9 +11,9 @@ use Rattle.dyn_message.specs.declared.msg_ref.MsgRef.{MsgRef}
 use Rattle.dyn_message.specs.Changes.{Changes, NowStands}
 use Rattle.pb_parse.specs.declared.stop.ParseFault.{ParseFault}
 use Rattle.pb_parse.specs.Parsing.{IsParseFault}
-use Rattle.pb_parse.specs.Whole.{shape_of_payload}
+use Rattle.pb_parse.specs.Whole.{payload_cost, shape_of_payload}
 use Rattle.parse_pool.specs.Phases.{PhaseState, payload_at, fault_at}
-use Rattle.parse_pool.specs.Parsed.{HasGrown}
+use Rattle.parse_pool.specs.Parsed.{HasGrown, PartCosts}
 
 -- the payload that was found is the frame's
 pub payload_is : (ph : PhaseState) (frame : ℕ) (bytes : List ℕ) → slice_get ph.payloads frame ≡ Some bytes → bytes ≡ payload_at ph frame
@@ -28,11 +28,12 @@ module _ (ph : PhaseState) (frame : ℕ) (before after : SerialState) where
     pub tree : IfOk parsed (λ _. tree_of ph.schema ph.root bytes ≡ Some (tree_map concat (shape_of_payload ph.schema ph.root bytes)))
     pub sound : IfOk parsed (λ _. fault_of ph.schema ph.root 0 bytes ≡ None)
     pub fault : IfErr parsed (IsParseFault (fault_of ph.schema ph.root 0 bytes) (blocks_of after))
+    pub costs : IfOk parsed (λ _. PartCosts ph before after (λ meter. payload_cost meter ph.schema ph.root bytes))
 
   pub grown_by : (parsed : Result MsgRef ParseFault) → Tells (payload_at ph frame) parsed → HasGrown ph frame (4 * length (payload_at ph frame) + 4) before after parsed
   unfolding fault_at
-  grown_by (Ok msg) t = record { changes = t.changes; message = record { type = t.type; stands = t.stands; tree = t.tree }; sound = t.sound; fault = tt }
-  grown_by (Err fault) t = record { changes = t.changes; message = tt; sound = tt; fault = t.fault }
+  grown_by (Ok msg) t = record { changes = t.changes; message = record { type = t.type; stands = t.stands; tree = t.tree }; sound = t.sound; fault = tt; costs = t.costs }
+  grown_by (Err fault) t = record { changes = t.changes; message = tt; sound = tt; fault = t.fault; costs = tt }
 
   -- a frame whose payload these bytes are
   pub frame_grown : (bytes : List ℕ) (parsed : Result MsgRef ParseFault) → slice_get ph.payloads frame ≡ Some bytes → Tells bytes parsed → HasGrown ph frame (4 * length (payload_at ph frame) + 4) before after parsed

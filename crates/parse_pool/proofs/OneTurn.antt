@@ -15,8 +15,9 @@ use Rattle.life_ids.specs.Cache.{CacheState}
 use Rattle.ts_arena.specs.declared.pass.Pass.{Pass}
 use Rattle.ts_arena.specs.Passes.{caller_of, slot_of, steps_of, HasPart, IsPassOf, FitsPass}
 use Rattle.parse_pool.specs.declared.pool_end.FrameResult.{FrameResult}
-use Rattle.parse_pool.specs.Phases.{PhaseState, payload_at, fault_at, end_of, frame_of, most_in}
-use Rattle.parse_pool.specs.Parsed.{IsParsed, AreSeparate, HasParsed, HasTurned, shape_at}
+use Rattle.pb_schema.specs.Meter.{Meter}
+use Rattle.parse_pool.specs.Phases.{PhaseState, payload_at, fault_at, end_of, frame_of, most_in, cost_at, cost_in}
+use Rattle.parse_pool.specs.Parsed.{IsParsed, AreSeparate, HasParsed, HasTurned, PartCosts, shape_at}
 use Rattle.parse_pool.proofs.Messages.{stands_on, feet_separate, fresh_separate}
 
 module _ (ph : PhaseState) where
@@ -70,25 +71,32 @@ module _ (ph : PhaseState) where
     changes = nothing_changes key_of places_of buffers_of blocks_of [] part;
     messages = λ turn r at. absurd (some-ne-none _ (sym at));
     apart = λ one other r q less at to. absurd (some-ne-none _ (sym at));
+    costs = λ same. record { space = refl; kept = refl };
   }
 
+  -- what a part was made to hold twice is both together
+  costs_join : (before after next : SerialState) (x y : Meter → ℕ) → PartCosts ph before after x → PartCosts ph after next y → PartCosts ph before next (λ meter. x meter + y meter)
+  costs_join before after next x y a b = record { space = omega (arith, a.space, b.space); kept = omega (arith, a.kept, b.kept) }
+
   -- a turn that went badly
-  pub refused_parsed : (worker turns : ℕ) (before after next : SerialState) (results : List FrameResult) → HasParsed ph worker turns before after results
+  pub refused_parsed : (worker turns : ℕ) (before after next : SerialState) (results : List FrameResult) → length results ≤ turns → HasParsed ph worker turns before after results
       → Changes key_of places_of buffers_of blocks_of (4 * length (payload_at ph (frame_of ph worker turns)) + 4) (4 * length (payload_at ph (frame_of ph worker turns)) + 4) [] after next
       → HasParsed ph worker (suc turns) before next results
-  refused_parsed worker turns before after next results h c = record {
+  refused_parsed worker turns before after next results few h c = record {
     changes = changes_join key_of places_of buffers_of blocks_of (most_in ph worker turns) (4 * length (payload_at ph (frame_of ph worker turns)) + 4) (most_in ph worker turns) (4 * length (payload_at ph (frame_of ph worker turns)) + 4) [] before after next h.changes c;
     messages = λ turn r at. parsed_on before after next r.frame r.msg c.others (h.messages turn r at);
     apart = λ one other r q less at to. separate_on before after next r.frame q.frame r.msg q.msg c.others (h.messages one r at) (h.messages other q to) (h.apart one other r q less at to);
+    costs = λ same. absurd (omega (arith, same, few));
   }
 
   -- a turn that went well
-  pub one_more_parsed : (worker turns : ℕ) (before after next : SerialState) (results : List FrameResult) (result : FrameResult) → HasParsed ph worker turns before after results
+  pub one_more_parsed : (worker turns : ℕ) (before after next : SerialState) (results : List FrameResult) (result : FrameResult) → length results ≤ turns → HasParsed ph worker turns before after results
       → Changes key_of places_of buffers_of blocks_of (4 * length (payload_at ph (frame_of ph worker turns)) + 4) (4 * length (payload_at ph (frame_of ph worker turns)) + 4) [] after next
       → IsParsed ph after next result.frame result.msg
+      → PartCosts ph after next (λ meter. cost_at meter ph (frame_of ph worker turns))
       → HasParsed ph worker (suc turns) before next (results ++ result ∷ [])
-  one_more_parsed worker turns before after next results result h c m =
-      let kept = refused_parsed worker turns before after next results h c in
+  one_more_parsed worker turns before after next results result few h c m cost =
+      let kept = refused_parsed worker turns before after next results few h c in
       let here : IsParsed ph before next result.frame result.msg = parsed_since before after next result.frame result.msg (most_in ph worker turns) (most_in ph worker turns) h.changes m in record {
         changes = kept.changes;
         messages = λ turn r at. ⊎_elim
@@ -105,6 +113,7 @@ module _ (ph : PhaseState) where
             (λ new_q. let first = new_r.0 in let second = new_q.0 in absurd (omega arith))
             (at_end results result q other to))
             (at_end results result r one at);
+        costs = λ same. costs_join before after next (λ meter. cost_in meter ph worker turns) (λ meter. cost_at meter ph (frame_of ph worker turns)) (h.costs (omega (arith, same, length-append results (result ∷ [])))) cost;
       }
 
 -- A WORKER'S TURNS
@@ -178,13 +187,13 @@ module _ (ph : PhaseState) (worker : ℕ) (first : Pass) (old : CacheState) wher
       parsed = λ part has.
           let was_parsed = t.parsed part has in
           let grown = s.grown was_parsed.0 was_parsed.1 in
-          (grown.0, grown.1, refused_parsed ph worker (length results) part was_parsed.0 grown.0 results was_parsed.2 grown.2);
+          (grown.0, grown.1, refused_parsed ph worker (length results) part was_parsed.0 grown.0 results (omega arith) was_parsed.2 grown.2);
     }
 
     -- a turn that gave one
     pub turned_well : (result : FrameResult) → result.frame ≡ frame_of ph worker (length results) → Steps ph (frame_of ph worker (length results)) before was now cache
         → fault_at ph (frame_of ph worker (length results)) ≡ None
-        → ((part : SerialState) → HasPart before part → (after : SerialState) × HasPart now after × Changes key_of places_of buffers_of blocks_of (4 * length (payload_at ph (frame_of ph worker (length results))) + 4) (4 * length (payload_at ph (frame_of ph worker (length results))) + 4) [] part after × IsParsed ph part after result.frame result.msg)
+        → ((part : SerialState) → HasPart before part → (after : SerialState) × HasPart now after × Changes key_of places_of buffers_of blocks_of (4 * length (payload_at ph (frame_of ph worker (length results))) + 4) (4 * length (payload_at ph (frame_of ph worker (length results))) + 4) [] part after × IsParsed ph part after result.frame result.msg × PartCosts ph part after (λ meter. cost_at meter ph (frame_of ph worker (length results))))
         → HasTurned ph worker (length (results ++ result ∷ [])) first old now cache (results ++ result ∷ [])
     turned_well result is s sound message =
         let bad = turned_badly s in
@@ -209,7 +218,7 @@ module _ (ph : PhaseState) (worker : ℕ) (first : Pass) (old : CacheState) wher
           parsed = λ part has.
               let was_parsed = t.parsed part has in
               let grown = message was_parsed.0 was_parsed.1 in
-              (grown.0, grown.1, one_more_parsed ph worker (length results) part was_parsed.0 grown.0 results result was_parsed.2 grown.2 grown.3);
+              (grown.0, grown.1, one_more_parsed ph worker (length results) part was_parsed.0 grown.0 results result (omega arith) was_parsed.2 grown.2 grown.3 grown.4);
         })
       where
         below_or : (a b : ℕ) → a < b + 1 → (a < b) ⊎ (a ≡ b)

@@ -24,6 +24,7 @@ use Rattle.parse_pool.specs.Starting.{AreBelow, AreCounted}
 use Rattle.parse_pool.proofs.AllMade.{all_parsed}
 use Rattle.parse_pool.proofs.Kept.{arena_kept}
 use Rattle.parse_pool.proofs.Begun.{no_memory_bad}
+use Rattle.parse_pool.proofs.Costed.{arena_costs}
 use Rattle.parse_pool.proofs.Sides.{bad_frame, caches_after, early, fit_owners, owners_after}
 use Rattle.parse_pool.proofs.Spent.{spent_there}
 use Rattle.parse_pool.proofs.Totalled.{total_grows}
@@ -62,6 +63,7 @@ module _ (ph : PhaseState) (passes passes' : List Pass) (caches caches' : List C
     caches_are = caches_after ph passes passes' caches caches' messages end run long after_long a sh of numbers shared first counted;
     fit = fit_owners ph passes passes' caches caches' messages end run long after_long a sh of numbers shared first counted b settled is_a is_b;
     parsed = λ done. all_parsed ph passes passes' caches caches' messages end run long sized a b sh numbers first counted settled is_a is_b done (run.collected done).count_is there;
+    costs = λ done. arena_costs ph passes passes' caches caches' messages end run long after_long a sh of numbers shared first counted b settled is_a is_b sized below some_worker few there done;
     early = λ done. subst (λ (n : ℕ). AreEarly n b messages) (sym long) (early ph passes passes' caches caches' messages end run long after_long a sh of numbers shared first counted b settled is_a is_b sized done);
     bad = λ index fault is. bad_frame ph passes passes' caches caches' messages end run long after_long a sh of numbers shared first counted index fault there (subst (λ (e : PoolEnd). HasEnded ph run.worked e) is run.ended);
     spent = λ region is. spent_there ph passes passes' caches caches' messages end run long sh of b settled is_b region (subst (λ (e : PoolEnd). HasEnded ph run.worked e) is run.ended);
@@ -80,6 +82,7 @@ module _ (ph : PhaseState) (passes passes' : List Pass) (caches caches' : List C
     caches_are = caches_after ph passes passes' caches caches' messages end run long after_long a sh of numbers shared first counted;
     fit = fit;
     parsed = λ done. no_arena _;
+    costs = λ done. no_arena _;
     early = λ done. no_arena _;
     bad = λ index fault is. absurd (no_memory_bad index fault is);
     spent = λ region is. no_arena _;

@@ -16,11 +16,13 @@ use Rattle.pb_schema.specs.declared.wire_fault.WireFault.{WireFault}
 use Rattle.pb_schema.specs.Fault.{fault_of}
 use Rattle.pb_schema.specs.Tree.{tree_map}
 use Rattle.pb_schema.specs.TreeOf.{tree_of}
-use Rattle.pb_parse.specs.Whole.{shape_of_payload}
+use Rattle.pb_schema.specs.Meter.{cleanups}
+use Rattle.pb_parse.specs.Costs.{record_meter}
+use Rattle.pb_parse.specs.Whole.{payload_cost, shape_of_payload}
 use Rattle.dyn_message.specs.declared.msg_ref.MsgRef.{MsgRef}
 use Rattle.dyn_message.specs.Feet.{Foot, IsAmong, KeepsOthers, Once, Split, foot_bytes}
 use Rattle.dyn_message.specs.Stands.{Stands}
-use Rattle.ts_arena.specs.Arena.{ArenaState}
+use Rattle.ts_arena.specs.Arena.{ArenaState, arena_registered, arena_used}
 use Rattle.ts_arena.specs.declared.side.Side.{Side}
 use Rattle.ts_arena.specs.declared.side.Side.TheVariants.{Sole, Unsettled}
 use Rattle.ts_arena.specs.Sole.{arena_blocks, arena_buffers, arena_places}
@@ -112,3 +114,8 @@ pub record GrowsTo (most : ℕ) (before after : ArenaState) : Type 0 where
 -- this region has all blocks that a number can name
 abbrev pub HasSpent : ArenaState → ℕ → Type 0
 HasSpent a region = arena_blocks a region ≡ 2 ^ 32 - 1
+
+-- the arena uses so many bytes more, and has so many byte strings more, as these payloads count together
+pub record CostsArena (schema : Schema) (root : ℕ) (payloads : List (List ℕ)) (before after : ArenaState) : Type 0 where
+  pub space : arena_used after ≡ arena_used before + sum_by (λ (p : List ℕ). payload_cost (record_meter schema) schema root p) payloads
+  pub kept : arena_registered after ≡ arena_registered before + sum_by (λ (p : List ℕ). payload_cost cleanups schema root p) payloads

@@ -7,7 +7,7 @@ use Rattle.dyn_message.specs.declared.msg_ref.MsgRef.{MsgRef}
 use Rattle.ts_arena.specs.Arena.{ArenaState}
 use Rattle.ts_arena.specs.Sides.{HoldsPasses}
 use Rattle.ts_arena.specs.declared.side.Side.{Side}
-use Rattle.parse_pool.specs.Arenas.{AreAfter, AreEarly, AreOwnersAfter, AreParsed, FitSide, GrowsTo, HasSpent, IfSole, IsBad, IsSole, KeepsKeys, most_made}
+use Rattle.parse_pool.specs.Arenas.{AreAfter, AreEarly, AreOwnersAfter, AreParsed, CostsArena, FitSide, GrowsTo, HasSpent, IfSole, IsBad, IsSole, KeepsKeys, most_made}
 use Rattle.parse_pool.specs.declared.pool_end.PoolEnd.{PoolEnd}
 use Rattle.parse_pool.specs.declared.pool_end.PoolEnd.TheVariants.{BadFrame, BlocksSpent, Done, NoMemory}
 
@@ -23,6 +23,7 @@ pub record Leaves (schema : Schema) (root first : ℕ) (payloads : List (List �
   pub fit : FitSide side caches'
   -- how it ended
   pub parsed : end ≡ Done → IfSole side (λ after. AreParsed schema root before after payloads messages)
+  pub costs : end ≡ Done → IfSole side (CostsArena schema root payloads before)
   pub early : end ≡ Done → IfSole side (λ after. AreEarly workers after messages)
   pub bad : (index : ℕ) (fault : WireFault) → end ≡ BadFrame index fault → IsBad schema root first payloads index fault
   pub spent : (region : ℕ) → end ≡ BlocksSpent region → IfSole side (λ after. HasSpent after region)

@@ -8,17 +8,19 @@ use Rattle.serial_arena.specs.Key.{key_of}
 use Rattle.serial_arena.specs.Serial.{SerialState, places_of, buffers_of, blocks_of}
 use Rattle.pb_schema.specs.Tree.{Shape, tree_map}
 use Rattle.pb_schema.specs.TreeOf.{tree_of}
+use Rattle.pb_schema.specs.Meter.{Meter}
 use Rattle.dyn_message.specs.declared.msg_ref.MsgRef.{MsgRef}
 use Rattle.dyn_message.specs.Feet.{Foot, Separate}
 use Rattle.dyn_message.specs.Stands.{Stands}
 use Rattle.dyn_message.specs.Changes.{Changes, NowStands}
 use Rattle.pb_parse.specs.declared.stop.ParseFault.{ParseFault}
+use Rattle.pb_parse.specs.Costs.{Costs}
 use Rattle.pb_parse.specs.Parsing.{IsParseFault}
 use Rattle.pb_parse.specs.Whole.{shape_of_payload}
 use Rattle.ts_arena.specs.declared.pass.Pass.{Pass}
 use Rattle.ts_arena.specs.Passes.{caller_of, slot_of, steps_of, HasPart, IsPassOf, FitsPass}
 use Rattle.parse_pool.specs.declared.pool_end.FrameResult.{FrameResult}
-use Rattle.parse_pool.specs.Phases.{PhaseState, payload_at, fault_at, end_of, frame_of, most_in}
+use Rattle.parse_pool.specs.Phases.{PhaseState, payload_at, fault_at, end_of, frame_of, most_in, cost_at, cost_in}
 
 -- what the payload of a frame is parsed as
 abbrev pub shape_at : PhaseState → ℕ → Shape
@@ -39,12 +41,18 @@ AreSeparate ph part one other =
     → Stands ph.schema (places_of part) (buffers_of part) other u others
     → Separate feet others
 
+-- a part of the arena was made to hold what this counts
+abbrev pub PartCosts : PhaseState → SerialState → SerialState → (Meter → ℕ) → Type 0
+PartCosts ph before after cost = Costs ph.schema (places_of before) (buffers_of before) (places_of after) (buffers_of after) cost
+
 -- a part of the arena, before and after so many turns of a worker, and the results of these turns
 pub record HasParsed (ph : PhaseState) (worker turns : ℕ) (before after : SerialState) (results : List FrameResult) : Type 0 where
   -- what was there keeps its bytes, and each turn adds 4 places and 4 buffers for each byte of its payload and 4 more at most
   pub changes : Changes key_of places_of buffers_of blocks_of (most_in ph worker turns) (most_in ph worker turns) [] before after
   pub messages : (turn : ℕ) (r : FrameResult) → get_elem? results turn ≡ some r → IsParsed ph before after r.frame r.msg
   pub apart : (one other : ℕ) (r q : FrameResult) → one < other → get_elem? results one ≡ some r → get_elem? results other ≡ some q → AreSeparate ph after r.msg q.msg
+  -- where each turn went well, what was placed and kept is exactly what their payloads count
+  pub costs : length results ≡ turns → PartCosts ph before after (λ meter. cost_in meter ph worker turns)
 
 -- a worker's pass, cache and results, with what its pass and cache were when the phase began: so many turns were begun,
 -- and all but the last one at least went well
@@ -68,3 +76,4 @@ pub record HasGrown (ph : PhaseState) (frame most : ℕ) (before after : SerialS
   pub message : IfOk parsed (IsParsed ph before after frame)
   pub sound : IfOk parsed (λ _. fault_at ph frame ≡ None)
   pub fault : IfErr parsed (IsParseFault (fault_at ph frame) (blocks_of after))
+  pub costs : IfOk parsed (λ _. PartCosts ph before after (λ meter. cost_at meter ph frame))

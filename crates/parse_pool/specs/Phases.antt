@@ -3,6 +3,8 @@ use Rattle.std.specs.Prelude.{◌≡◌, ◌+◌, ◌*◌, ◌^◌, ◌<◌, ◌
 use Rattle.pb_schema.specs.declared.schema.Schema.{Schema}
 use Rattle.pb_schema.specs.declared.wire_fault.WireFault.{WireFault}
 use Rattle.pb_schema.specs.Fault.{fault_of}
+use Rattle.pb_schema.specs.Meter.{Meter}
+use Rattle.pb_parse.specs.Whole.{payload_cost}
 use Rattle.ts_arena.specs.Passes.{SharedState}
 
 -- the arena, the type of the messages, the payloads of all frames, the frames of the phase, and how many workers there are
@@ -50,6 +52,15 @@ pub record IsPhase (ph : PhaseState) : Type 0 where
 abbrev pub most_in : PhaseState → ℕ → ℕ → ℕ
 most_in ph worker zero = 0
 most_in ph worker (suc turn) = most_in ph worker turn + (4 * length (payload_at ph (frame_of ph worker turn)) + 4)
+
+-- what the payload of a frame counts by a meter
+abbrev pub cost_at : Meter → PhaseState → ℕ → ℕ
+cost_at meter ph frame = payload_cost meter ph.schema ph.root (payload_at ph frame)
+
+-- what the payloads of a worker's first turns count
+abbrev pub cost_in : Meter → PhaseState → ℕ → ℕ → ℕ
+cost_in meter ph worker zero = 0
+cost_in meter ph worker (suc turn) = cost_in meter ph worker turn + cost_at meter ph (frame_of ph worker turn)
 
 -- the phase of a call
 abbrev pub phase : SharedState → Schema → ℕ → List (List ℕ) → ℕ → ℕ → ℕ → PhaseState

@@ -7,7 +7,8 @@ ghost use Rattle.pb_schema.specs.Tree.{tree_map};
 ghost use Rattle.pb_schema.specs.TreeOf.{tree_of};
 ghost use Rattle.dyn_message.specs.Changes.{Changes, NowStands};
 ghost use Rattle.pb_parse.specs.Parsing.{IsParseFault};
-ghost use Rattle.pb_parse.specs.Whole.{shape_of_payload};
+ghost use Rattle.pb_parse.specs.Costs.{Costs};
+ghost use Rattle.pb_parse.specs.Whole.{payload_cost, shape_of_payload};
 ghost use Rattle.ts_arena.specs.Passes.{caller_of, slot_of, steps_of, HasPart, IsPassOf, FitsPass};
 ghost use Rattle.parse_pool.specs.Phases.{payload_at, end_of};
 ghost use Rattle.parse_pool.specs.Parsed.{HasGrown};
@@ -38,6 +39,7 @@ fn parse_in<M: Memory>(
     ensures tree { IfOk result (λ _. tree_of types.now root bytes.now ≡ Some (tree_map concat (shape_of_payload types.now root bytes.now))) }
     ensures sound { IfOk result (λ _. fault_of types.now root 0 bytes.now ≡ None) }
     ensures fault { IfErr result (IsParseFault (fault_of types.now root 0 bytes.now) (M.blocks mem.new)) }
+    ensures costs { IfOk result (λ _. Costs types.now (M.places mem.old) (M.buffers mem.old) (M.places mem.new) (M.buffers mem.new) (λ meter. payload_cost meter types.now root bytes.now)) }
     ensures changes { Changes M.key M.places M.buffers M.blocks (4 * length bytes.now + 4) (4 * length bytes.now + 4) [] mem.old mem.new }
 {
     match create(mem, types, root) {

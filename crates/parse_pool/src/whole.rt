@@ -1,7 +1,7 @@
 // A phase over a whole arena: it is shared among the workers, parsed into, and settled.
 ghost use Rattle.std.specs.Prelude.{◌≡◌, ◌+◌, ◌<◌, ◌≤◌, Err, [], length, vec_capacity, IfOk, IfErr};
 ghost use Rattle.ts_arena.specs.Sides.{HoldsPasses};
-ghost use Rattle.parse_pool.specs.Arenas.{AreAfter, AreEarly, AreOwnersAfter, AreParsed, FitSide, GrowsTo, HasSpent, IfSole, IsBad, IsSole, KeepsKeys, most_made, part_of};
+ghost use Rattle.parse_pool.specs.Arenas.{AreAfter, AreEarly, AreOwnersAfter, AreParsed, CostsArena, FitSide, GrowsTo, HasSpent, IfSole, IsBad, IsSole, KeepsKeys, most_made, part_of};
 ghost use Rattle.parse_pool.specs.Leaving.{Leaves};
 ghost use Rattle.parse_pool.specs.Phases.{AreShort};
 ghost use Rattle.parse_pool.specs.Starting.{AreBelow, FitOwners};
@@ -40,6 +40,7 @@ fn make_rooms(
 ///
 /// The arena comes back with its life, its policy and its adopted regions; it is `Unsettled` only where memory was wanted.
 /// All that was in it keeps its bytes, and it has at most 4 places and 4 buffers more for each byte of a payload and each frame.
+/// Where all frames were parsed it uses exactly as much more as the payloads count, whoever parsed which.
 ///
 /// # Errors
 ///
@@ -73,6 +74,7 @@ pub fn parse_phase<R: Threads + Sync, G: Gate + Sync>(
     ensures fit { FitSide result.0 caches.new }
     // where all was parsed
     ensures parsed { IfOk result.1 (λ messages. IfSole result.0 (λ b. AreParsed types.now root arena b (part_of first count frames.now) messages.items)) }
+    ensures costs { IfOk result.1 (λ messages. IfSole result.0 (CostsArena types.now root (part_of first count frames.now) arena)) }
     ensures early { IfOk result.1 (λ messages. IfSole result.0 (λ b. AreEarly (length caches.old) b messages.items)) }
     // and where it wasn't
     ensures bad { (index : _) (fault : _) → result.1 ≡ Err (PoolEnd.BadFrame index fault) → IsBad types.now root first (part_of first count frames.now) index fault }

@@ -39,5 +39,6 @@ returns-clause-grown g c = λ part has.
             tree = told.tree;
             sound = told.sound;
             fault = told.fault;
+            costs = told.costs;
           }))),
     )

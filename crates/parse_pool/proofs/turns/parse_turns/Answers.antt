@@ -5,8 +5,8 @@ use Rattle.serial_arena.specs.Serial.{places_of, buffers_of, blocks_of}
 use Rattle.dyn_message.specs.Changes.{Changes}
 use Rattle.pb_parse.specs.Parsing.{IsParseFault}
 use Rattle.parse_pool.specs.declared.pool_end.FrameResult.{FrameResult}
-use Rattle.parse_pool.specs.Phases.{payload_at, fault_at, frame_of, end_of}
-use Rattle.parse_pool.specs.Parsed.{IsParsed, HasTurned}
+use Rattle.parse_pool.specs.Phases.{payload_at, fault_at, frame_of, end_of, cost_at}
+use Rattle.parse_pool.specs.Parsed.{IsParsed, HasTurned, PartCosts}
 use Rattle.parse_pool.specs.Ends.{StopsAs}
 use Rattle.parse_pool.proofs.Ended.{stops_by}
 use Rattle.parse_pool.proofs.OneTurn.{Steps, turned_badly, turned_well, next_frame}
@@ -60,6 +60,7 @@ loop-frame-preserved g c =
             k.1,
             subst (λ f. Changes key_of places_of buffers_of blocks_of (4 * length (payload_at ph f) + 4) (4 * length (payload_at ph f) + 4) [] part k.0) inv.1 k.2.changes,
             subst (λ r. IfOk r (IsParsed ph part k.0 c.loop-frame.frame)) c.in-Ok.is k.2.message,
+            subst (λ f. PartCosts ph part k.0 (λ meter. cost_at meter ph f)) inv.1 (subst (λ r. IfOk r (λ _. PartCosts ph part k.0 (λ meter. cost_at meter ph c.loop-frame.frame))) c.in-Ok.is k.2.costs),
           ))),
       next_frame ph w rs result c.loop-frame.frame c.phase.inside.workers inv.1 (ap (λ p. p.workers) c.phase.view_is) ∙ ap (λ xs. frame_of ph w (length xs)) (sym added),
     )
