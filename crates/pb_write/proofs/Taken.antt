@@ -1,9 +1,10 @@
 -- What a sink took, call by call.
-use Rattle.std.proofs.Common.{◌≡◌, ◌+◌, ◌-◌, ◌<◌, ◌≤◌, ℕ, suc, List, [], ◌∷◌, ◌++◌, length, take, drop, Option, None, Some, sym, ap, ◌∙◌, subst, append_assoc, take-append-drop, length-append, zero-add, arith}
+use Rattle.std.proofs.Common.{◌≡◌, ◌+◌, ◌-◌, ◌^◌, ◌<◌, ◌≤◌, ℕ, min, suc, List, [], ◌∷◌, ◌++◌, length, take, drop, Option, None, Some, sym, ap, ◌∙◌, subst, append_assoc, take-append-drop, length-append, length-take-le, zero-add, arith}
 use Rattle.std.specs.Io.KnownBytes.{Appends, append_known}
 use Rattle.std.proofs.KnownBytes.{Appends-trans}
 use Rattle.std.proofs.lemmas.List.{take-take, drop-take, take-append-le}
 use Rattle.arena_mem.specs.Outside.{TookPart, KeepsTaken}
+use Rattle.pb_write.specs.Writes.{Counts}
 
 suc_add : (a b : ℕ) → suc a + b ≡ suc (a + b)
 suc_add a b = omega arith
@@ -22,6 +23,26 @@ KeepsTaken-trans None b c p q = tt
 KeepsTaken-trans (Some x) None c p q = absurd p
 KeepsTaken-trans (Some x) (Some y) None p q = absurd q
 KeepsTaken-trans (Some x) (Some y) (Some z) p q = omega arith
+
+-- COUNTING
+
+pub Counts-refl : (a : Option (List ℕ)) (n : ℕ) → Counts a a n n
+Counts-refl None n = tt
+Counts-refl (Some x) n = (omega arith, omega arith)
+
+pub Counts-trans : (a b c : Option (List ℕ)) (before middle after : ℕ) → Counts a b before middle → Counts b c middle after → Counts a c before after
+Counts-trans None b c before middle after p q = tt
+Counts-trans (Some x) None c before middle after p q = absurd p
+Counts-trans (Some x) (Some y) None before middle after p q = absurd q
+Counts-trans (Some x) (Some y) (Some z) before middle after p q = (omega (arith, p.0, q.0), omega (arith, p.0, q.0, p.1, q.1))
+
+-- a piece of so many bytes more was taken
+pub counts_piece : (b c : Option (List ℕ)) (piece : List ℕ) (middle after count : ℕ) → Appends b c (take count piece) → count ≤ length piece → after ≡ min (middle + count) (2 ^ 64 - 1) → Counts b c middle after
+counts_piece None c piece middle after count taken less is = tt
+counts_piece (Some y) None piece middle after count taken less is = absurd taken
+counts_piece (Some y) (Some z) piece middle after count taken less is =
+    let sizes : length z ≡ length y + count = ap (λ (l : List ℕ). length l) taken ∙ length-append y (take count piece) ∙ ap (λ n. length y + n) (length-take-le count piece less) in
+    (omega (arith, sizes), omega (arith, sizes, is))
 
 -- a front of what stands behind x, seen from a longer y
 front_behind : (x y piece front rest : List ℕ) (count : ℕ) → length x ≤ length y → y ++ piece ≡ x ++ front → count < length piece

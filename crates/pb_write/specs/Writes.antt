@@ -1,5 +1,5 @@
 -- Text that is gathered for a sink, and handed over where there is no room left for it.
-use Rattle.std.specs.Prelude.{ℕ, List, ◌++◌, take, Option, Result, OnOk, OnErr}
+use Rattle.std.specs.Prelude.{◌≡◌, ◌+◌, ◌-◌, ◌^◌, ◌≤◌, ℕ, List, ◌++◌, length, take, Option, None, Some, Result, OnOk, OnErr, min, ⊤}
 use Rattle.arena_mem.specs.declared.outside.Failed.{Failed}
 use Rattle.arena_mem.specs.Outside.{HasCause, TookPart, KeepsTaken, Gathers}
 use Rattle.pb_write.specs.declared.gathered.Gathered.{Gathered}
@@ -7,6 +7,16 @@ use Rattle.pb_write.specs.declared.gathered.Gathered.{Gathered}
 -- the bytes that are gathered
 abbrev pub gathered_in : Gathered → List ℕ
 gathered_in out = take out.filled out.bytes
+
+-- a number, up to the end of what a u64 counts
+abbrev pub capped : ℕ → ℕ
+capped n = min n (2 ^ 64 - 1)
+
+-- a count of the bytes that a sink took rose by as many as the sink took meanwhile, up to the end of what a u64 counts
+abbrev pub Counts : Option (List ℕ) → Option (List ℕ) → ℕ → ℕ → Type 0
+Counts None now before after = ⊤
+Counts (Some was) None before after = ⊥
+Counts (Some was) (Some now) before after = (length was ≤ length now) × (capped after ≡ capped (before + (length now - length was)))
 
 -- what the sink took and what is gathered grew by the text; or else the sink took a front of both, and not all
 pub record Writes (was : Option (List ℕ)) (before : List ℕ) (now : Option (List ℕ)) (after : List ℕ) (result : Result (Unit {0}) Failed) (text : List ℕ) : Type 0 where

@@ -14,7 +14,7 @@ ghost use Rattle.dyn_message.specs.Feet.{Foot};
 ghost use Rattle.dyn_message.specs.Slots.{part, slot_in, told_in};
 ghost use Rattle.dyn_message.specs.Stands.{IsSingle, ValueStands, ValuesStand, HeldStands, FieldsStand, MessageStands, PiecesStand};
 ghost use Rattle.pb_write.specs.Puts.{IsEntryIn, front_of, fields_in};
-ghost use Rattle.pb_write.specs.Writes.{Sends, Writes, gathered_in};
+ghost use Rattle.pb_write.specs.Writes.{Counts, Sends, Writes, gathered_in};
 
 use crate::backwards::{DELIMITED, PIECE_BYTES, is_held, put_field, put_nested};
 use crate::counter::{elements_size, message_size};
@@ -44,6 +44,7 @@ pub(crate) fn write_text<M: Memory, S: Sink>(
         → length (message_text types.now (fields_of types.now msg.type_no) (tree_map concat t)) < 2 ^ 63
         → Writes (S.taken sink.old) (gathered_in out.old) (S.taken sink.new) (gathered_in out.new) result (message_text types.now (fields_of types.now msg.type_no) (tree_map concat t)) }
     ensures sent { Sends (S.taken sink.old) (S.taken sink.new) (S.faults sink.old) (S.faults sink.new) result }
+    ensures counted { Counts (S.taken sink.old) (S.taken sink.new) out.old.taken out.new.taken }
 {
     let _schema = types.schema();
     let layout = types.of_type(msg.type_no);
@@ -66,6 +67,7 @@ fn write_pieces<M: Memory, S: Sink>(
         → length (concat pieces) < 2 ^ 63
         → Writes (S.taken sink.old) (gathered_in out.old) (S.taken sink.new) (gathered_in out.new) result (concat pieces) }
     ensures sent { Sends (S.taken sink.old) (S.taken sink.new) (S.faults sink.old) (S.faults sink.new) result }
+    ensures counted { Counts (S.taken sink.old) (S.taken sink.new) out.old.taken out.new.taken }
 {
     let (array, count) = list_at(bytes, at);
     if count == 0 {
@@ -98,6 +100,7 @@ fn write_fields<M: Memory, S: Sink>(
         → length (fields_text types.now (fields_in entries.now) (fields_map concat held)) < 2 ^ 63
         → Writes (S.taken sink.old) (gathered_in out.old) (S.taken sink.new) (gathered_in out.new) result (fields_text types.now (fields_in entries.now) (fields_map concat held)) }
     ensures sent { Sends (S.taken sink.old) (S.taken sink.new) (S.faults sink.old) (S.faults sink.new) result }
+    ensures counted { Counts (S.taken sink.old) (S.taken sink.new) out.old.taken out.new.taken }
 {
     let mut i = 0;
     'fields: while i < entries.len() {
@@ -125,6 +128,7 @@ fn write_field<M: Memory, S: Sink>(
         → length (held_text types.now entry.field (held_map concat held)) < 2 ^ 63
         → Writes (S.taken sink.old) (gathered_in out.old) (S.taken sink.new) (gathered_in out.new) result (held_text types.now entry.field (held_map concat held)) }
     ensures sent { Sends (S.taken sink.old) (S.taken sink.new) (S.faults sink.old) (S.faults sink.new) result }
+    ensures counted { Counts (S.taken sink.old) (S.taken sink.new) out.old.taken out.new.taken }
 {
     room.clear();
     if let Ok(()) = put_field(mem, types, bytes, &entry, left, room) {
@@ -157,6 +161,7 @@ fn write_single<M: Memory, S: Sink>(
         → length (held_text types.now entry.field (held_map concat held)) < 2 ^ 63
         → Writes (S.taken sink.old) (gathered_in out.old) (S.taken sink.new) (gathered_in out.new) result (held_text types.now entry.field (held_map concat held)) }
     ensures sent { Sends (S.taken sink.old) (S.taken sink.new) (S.faults sink.old) (S.faults sink.new) result }
+    ensures counted { Counts (S.taken sink.old) (S.taken sink.new) out.old.taken out.new.taken }
 {
     let _schema = types.schema();
     if !is_held(bytes, &entry) {
@@ -196,6 +201,7 @@ fn write_list<M: Memory, S: Sink>(
         → length (held_text types.now entry.field (held_map concat held)) < 2 ^ 63
         → Writes (S.taken sink.old) (gathered_in out.old) (S.taken sink.new) (gathered_in out.new) result (held_text types.now entry.field (held_map concat held)) }
     ensures sent { Sends (S.taken sink.old) (S.taken sink.new) (S.faults sink.old) (S.faults sink.new) result }
+    ensures counted { Counts (S.taken sink.old) (S.taken sink.new) out.old.taken out.new.taken }
 {
     let (array, count) = list_at(bytes, entry.slot);
     if count == 0 {
@@ -241,6 +247,7 @@ fn write_elements<M: Memory, S: Sink>(
         → length (values_text types.now field (front_of packed field) (values_map concat values)) < 2 ^ 63
         → Writes (S.taken sink.old) (gathered_in out.old) (S.taken sink.new) (gathered_in out.new) result (values_text types.now field (front_of packed field) (values_map concat values)) }
     ensures sent { Sends (S.taken sink.old) (S.taken sink.new) (S.faults sink.old) (S.faults sink.new) result }
+    ensures counted { Counts (S.taken sink.old) (S.taken sink.new) out.old.taken out.new.taken }
 {
     let size = single_bytes(field.kind);
     let mut i = 0;
@@ -272,6 +279,7 @@ fn write_value<M: Memory, S: Sink>(
         → length (value_text types.now field (value_map concat value)) < 2 ^ 63
         → Writes (S.taken sink.old) (gathered_in out.old) (S.taken sink.new) (gathered_in out.new) result (value_text types.now field (value_map concat value)) }
     ensures sent { Sends (S.taken sink.old) (S.taken sink.new) (S.faults sink.old) (S.faults sink.new) result }
+    ensures counted { Counts (S.taken sink.old) (S.taken sink.new) out.old.taken out.new.taken }
 {
     match field.kind {
         Kind::Message(type_no) => {
@@ -302,6 +310,7 @@ pub(crate) fn write_nested<M: Memory, S: Sink>(
         → length (framed (message_text types.now (fields_of types.now msg.type_no) (tree_map concat t))) < 2 ^ 63
         → Writes (S.taken sink.old) (gathered_in out.old) (S.taken sink.new) (gathered_in out.new) result (framed (message_text types.now (fields_of types.now msg.type_no) (tree_map concat t))) }
     ensures sent { Sends (S.taken sink.old) (S.taken sink.new) (S.faults sink.old) (S.faults sink.new) result }
+    ensures counted { Counts (S.taken sink.old) (S.taken sink.new) out.old.taken out.new.taken }
 {
     room.clear();
     if let Ok(()) = put_nested(mem, types, msg, left, room) {

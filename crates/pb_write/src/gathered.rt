@@ -3,22 +3,26 @@ ghost use Rattle.std.specs.Prelude.{◌≡◌, ◌+◌, ◌≤◌, ◌++◌, [],
 
 use crate::room::ROOM_BYTES;
 
-/// Bytes that wait to be handed over, from the start of a room on.
+/// Bytes that wait to be handed over, from the start of a room on, and a count of those that a sink took.
 #[derive(Drop)]
 pub(crate) struct Gathered {
     bytes: [u8; ROOM_BYTES],
     filled: usize,
+    /// How many bytes a sink took, up to the end of what a u64 counts.
+    pub(crate) taken: u64,
     ghost within: { filled ≤ 65536 },
 }
 
 impl Gathered {
     /// Nothing is gathered.
     pub(crate) fn new() -> Gathered
-        ensures { take result.filled result.bytes ≡ [] }
+        ensures text { take result.filled result.bytes ≡ [] }
+        ensures taken { result.taken ≡ 0 }
     {
         Gathered {
             bytes: [0u8; ROOM_BYTES],
             filled: 0,
+            taken: 0,
         }
     }
 
@@ -40,6 +44,7 @@ impl Gathered {
     pub(crate) fn clear(&mut self)
         ensures text { take self.new.filled self.new.bytes ≡ [] }
         ensures room { self.new.filled ≡ 0 }
+        ensures taken { self.new.taken ≡ self.old.taken }
     {
         self.filled = 0;
     }
@@ -47,7 +52,8 @@ impl Gathered {
     /// Gathers bytes for which there is room.
     pub(crate) fn push(&mut self, bytes: &[u8])
         requires { self.old.filled + length bytes.now ≤ 65536 }
-        ensures { take self.new.filled self.new.bytes ≡ take self.old.filled self.old.bytes ++ bytes.now }
+        ensures text { take self.new.filled self.new.bytes ≡ take self.old.filled self.old.bytes ++ bytes.now }
+        ensures taken { self.new.taken ≡ self.old.taken }
     {
         let end = self.filled + bytes.len();
         self.bytes[self.filled..end].copy_from_slice(bytes);

@@ -5,7 +5,7 @@ ghost use Rattle.pb_schema.specs.Kinds.{value_type_of};
 ghost use Rattle.pb_schema.specs.Text.{field_tag, framed, spelled_text};
 ghost use Rattle.pb_schema.specs.Varint.{varint_of};
 ghost use Rattle.pb_write.specs.Puts.{front_of};
-ghost use Rattle.pb_write.specs.Writes.{Sends, Writes, gathered_in};
+ghost use Rattle.pb_write.specs.Writes.{Counts, Sends, Writes, gathered_in};
 
 use crate::backwards::wire_of;
 use crate::gathered::Gathered;
@@ -23,6 +23,7 @@ pub(crate) fn gather_varint<S: Sink>(
 ) -> Result<(), Failed>
     ensures written { Writes (S.taken sink.old) (gathered_in out.old) (S.taken sink.new) (gathered_in out.new) result (varint_of value) }
     ensures sent { Sends (S.taken sink.old) (S.taken sink.new) (S.faults sink.old) (S.faults sink.new) result }
+    ensures counted { Counts (S.taken sink.old) (S.taken sink.new) out.old.taken out.new.taken }
 {
     let mut varint = [0u8; 10];
     let count = put_varint(&mut varint, 0, value);
@@ -38,6 +39,7 @@ pub(crate) fn gather_tag<S: Sink>(
     requires { field.number < 2 ^ 29 }
     ensures written { Writes (S.taken sink.old) (gathered_in out.old) (S.taken sink.new) (gathered_in out.new) result (field_tag field) }
     ensures sent { Sends (S.taken sink.old) (S.taken sink.new) (S.faults sink.old) (S.faults sink.new) result }
+    ensures counted { Counts (S.taken sink.old) (S.taken sink.new) out.old.taken out.new.taken }
 {
     gather_varint(u64::from(field.number * 8 + wire_of(field.kind)), out, sink)
 }
@@ -52,6 +54,7 @@ pub(crate) fn gather_front<S: Sink>(
     requires { field.number < 2 ^ 29 }
     ensures written { Writes (S.taken sink.old) (gathered_in out.old) (S.taken sink.new) (gathered_in out.new) result (front_of packed field) }
     ensures sent { Sends (S.taken sink.old) (S.taken sink.new) (S.faults sink.old) (S.faults sink.new) result }
+    ensures counted { Counts (S.taken sink.old) (S.taken sink.new) out.old.taken out.new.taken }
 {
     if packed {
         Ok(())
@@ -68,6 +71,7 @@ pub(crate) fn gather_framed<S: Sink>(
 ) -> Result<(), Failed>
     ensures written { Writes (S.taken sink.old) (gathered_in out.old) (S.taken sink.new) (gathered_in out.new) result (framed bytes.now) }
     ensures sent { Sends (S.taken sink.old) (S.taken sink.new) (S.faults sink.old) (S.faults sink.new) result }
+    ensures counted { Counts (S.taken sink.old) (S.taken sink.new) out.old.taken out.new.taken }
 {
     gather_varint(bytes.len() as u64, out, sink)?;
     gather(bytes, out, sink)
@@ -83,6 +87,7 @@ pub(crate) fn gather_number<S: Sink>(
     requires { IsPatternOf (value_type_of kind) bits }
     ensures written { Writes (S.taken sink.old) (gathered_in out.old) (S.taken sink.new) (gathered_in out.new) result (spelled_text (value_type_of kind) bits) }
     ensures sent { Sends (S.taken sink.old) (S.taken sink.new) (S.faults sink.old) (S.faults sink.new) result }
+    ensures counted { Counts (S.taken sink.old) (S.taken sink.new) out.old.taken out.new.taken }
 {
     match kind {
         Kind::Double | Kind::Fixed64 | Kind::SFixed64 => gather(&bits.to_le_bytes(), out, sink),

@@ -120,7 +120,10 @@ fn is_framed_twice(text: &[u8]) -> bool {
     }
 }
 
-// Two messages wait until they are handed over; where that fails, nothing waits any more.
+// How many bytes two samples have, each behind its length of one byte.
+const FRAMED_TWICE_BYTES: u64 = 68;
+
+// Two messages wait until they are handed over; where that fails, nothing waits any more, and what was refused isn't counted.
 #[test]
 fn messages_wait_behind_their_lengths(rt: HostRuntime) -> Result<(), Fail> {
     let types = layouts(rt.alloc(), builtin(rt.alloc())?)?;
@@ -134,9 +137,11 @@ fn messages_wait_behind_their_lengths(rt: HostRuntime) -> Result<(), Fail> {
     assert!(rt; sink.taken().is_empty());
     assert!(rt; rooms.flush(&mut sink).is_ok());
     assert!(rt; is_framed_twice(sink.taken()));
+    assert_eq!(rt; rooms.bytes_taken(), FRAMED_TWICE_BYTES);
     assert!(rt; write_framed(&mem, &types, msg, &mut rooms, &mut sink).is_ok());
     assert!(rt; rooms.flush(&mut sink).is_err());
     assert!(rt; rooms.flush(&mut sink).is_ok());
     assert!(rt; is_framed_twice(sink.taken()));
+    assert_eq!(rt; rooms.bytes_taken(), FRAMED_TWICE_BYTES);
     Ok(())
 }

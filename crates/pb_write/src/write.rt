@@ -11,7 +11,7 @@ use crate::backwards::{MOST_LEVELS, put_message};
 use crate::forwards::write_text;
 use crate::gathered::Gathered;
 use crate::room::Room;
-use crate::sending::hand_over;
+use crate::sending::{hand_over, send};
 use arena_mem::{Failed, Memory, Sink};
 use dyn_message::MsgRef;
 use msg_layout::tables::Layouts;
@@ -34,7 +34,8 @@ pub fn write_message<M: Memory, S: Sink>(
 {
     let mut room = Room::new();
     if let Ok(()) = put_message(mem, types, msg, MOST_LEVELS, &mut room) {
-        return hand_over(room.text(), sink);
+        let mut taken = 0;
+        return hand_over(room.text(), &mut taken, sink);
     }
     write_long(mem, types, msg, &mut room, sink)
 }
@@ -58,5 +59,5 @@ fn write_long<M: Memory, S: Sink>(
 {
     let mut out = Gathered::new();
     write_text(mem, types, msg, MOST_LEVELS, room, &mut out, sink)?;
-    hand_over(out.text(), sink)
+    send(&mut out, sink)
 }

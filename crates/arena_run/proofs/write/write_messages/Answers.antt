@@ -33,7 +33,7 @@ returns-in_err-write_framed-clause-err g c = λ type_no trees all.
 
 pub loop-message-init : goal.loop-message-init
 loop-message-init g c = record {
-  frames = λ type_no trees all. none_waits (g.O.Sink.taken c.args.out.now) _ (framed_texts c.args.types.now type_no trees) c.new-rooms.ensures;
+  frames = λ type_no trees all. none_waits (g.O.Sink.taken c.args.out.now) _ (framed_texts c.args.types.now type_no trees) c.new-rooms.ensures.waiting;
   kept = KeepsTaken-refl (g.O.Sink.taken c.args.out.now);
   faults = omega arith;
 }

@@ -27,7 +27,7 @@ use Rattle.pb_write.proofs.Lists.{array_live, count_same, elements_there, elemen
 use Rattle.pb_write.proofs.Parts.{fields_drop, values_drop, field_at_index, fields_end, value_levels_at, value_text_at, values_end}
 use Rattle.pb_write.proofs.Records.{opened, entries_lie, type_known, record_live, pieces_at, entries_at, fields_at}
 use Rattle.pb_write.proofs.Singles.{set_value, unset_nothing, single_of}
-use Rattle.pb_write.proofs.Taken.{KeepsTaken-trans}
+use Rattle.pb_write.proofs.Taken.{KeepsTaken-trans, Counts-refl, Counts-trans}
 use Rattle.pb_write.proofs.Values.{message_value, message_place, string_value, string_slot, bytes_type, number_value, number_type}
 use Rattle.pb_write.proofs.Writing.{IsWritten, writes_same, writes_nothing, written_none, written_more, written_failed, written_last, written_all, piece_short, failed_with, sends_more, room_put}
 use Rattle.pb_write.proofs.forwards.+forwards.Goals as goal
@@ -38,6 +38,7 @@ pub write_elements-values-init : goal.write_elements-values-init
 write_elements-values-init g t c = record {
   within = omega arith;
   longer = KeepsTaken-refl (g.S.Sink.taken c.args.sink.now);
+  counted = Counts-refl (g.S.Sink.taken c.args.sink.now) c.args.out.now.taken;
   faults = omega arith;
   written = λ values feet stand counted short. written_none (g.S.Sink.taken c.args.sink.now) (gathered_in c.args.out.now) (values_text c.args.types.now c.args.field (front_of c.args.packed c.args.field) (values_map concat values));
 }
@@ -64,6 +65,9 @@ pub write_elements-returns-in_err-gather_front-clause-sent : goal.write_elements
 write_elements-returns-in_err-gather_front-clause-sent g t c =
     let p = err_from_is_err_and c.from_residual.result c.from_residual.ensures.1 in
     sends_more (g.S.Sink.taken c.args.sink.now) (g.S.Sink.taken c.values.sink) (g.S.Sink.taken c.gather_front.new.sink) (g.S.Sink.faults c.args.sink.now) (g.S.Sink.faults c.values.sink) (g.S.Sink.faults c.gather_front.new.sink) c.from_residual.result c.gather_front.result p.0 c.values.invariant.longer c.values.invariant.faults c.in_err-gather_front.ensures.sent p.1
+
+pub write_elements-returns-in_err-gather_front-clause-counted : goal.write_elements-returns-in_err-gather_front-clause-counted
+write_elements-returns-in_err-gather_front-clause-counted g t c = Counts-trans (g.S.Sink.taken c.args.sink.now) (g.S.Sink.taken c.values.sink) (g.S.Sink.taken c.gather_front.new.sink) c.args.out.now.taken c.values.out.taken c.gather_front.new.out.taken c.values.invariant.counted c.in_err-gather_front.ensures.counted
 
 pub write_elements-write_value-requires : goal.write_elements-write_value-requires
 write_elements-write_value-requires g t c κs within =
@@ -110,10 +114,14 @@ write_elements-returns-in_err-write_value-clause-sent g t c =
     sends_more (g.S.Sink.taken c.args.sink.now) (g.S.Sink.taken c.gather_front.new.sink) (g.S.Sink.taken c.write_value.new.sink) (g.S.Sink.faults c.args.sink.now) (g.S.Sink.faults c.gather_front.new.sink) (g.S.Sink.faults c.write_value.new.sink) c.from_residual-in_err-write_value.result c.write_value.result p.0
     (KeepsTaken-trans (g.S.Sink.taken c.args.sink.now) (g.S.Sink.taken c.values.sink) (g.S.Sink.taken c.gather_front.new.sink) c.values.invariant.longer c.in_ok-gather_front.ensures.sent.longer) (omega (arith, less, next)) c.in_err-write_value.ensures.sent p.1
 
+pub write_elements-returns-in_err-write_value-clause-counted : goal.write_elements-returns-in_err-write_value-clause-counted
+write_elements-returns-in_err-write_value-clause-counted g t c = Counts-trans (g.S.Sink.taken c.args.sink.now) (g.S.Sink.taken c.gather_front.new.sink) (g.S.Sink.taken c.write_value.new.sink) c.args.out.now.taken c.gather_front.new.out.taken c.write_value.new.out.taken (Counts-trans (g.S.Sink.taken c.args.sink.now) (g.S.Sink.taken c.values.sink) (g.S.Sink.taken c.gather_front.new.sink) c.args.out.now.taken c.values.out.taken c.gather_front.new.out.taken c.values.invariant.counted c.in_ok-gather_front.ensures.counted) c.in_err-write_value.ensures.counted
+
 pub write_elements-values-preserved : goal.write_elements-values-preserved
 write_elements-values-preserved g t c = record {
   within = omega (arith, c.values-test.true);
   longer = KeepsTaken-trans (g.S.Sink.taken c.args.sink.now) (g.S.Sink.taken c.gather_front.new.sink) (g.S.Sink.taken c.write_value.new.sink) (KeepsTaken-trans (g.S.Sink.taken c.args.sink.now) (g.S.Sink.taken c.values.sink) (g.S.Sink.taken c.gather_front.new.sink) c.values.invariant.longer c.in_ok-gather_front.ensures.sent.longer) c.in_ok-write_value.ensures.sent.longer;
+  counted = Counts-trans (g.S.Sink.taken c.args.sink.now) (g.S.Sink.taken c.gather_front.new.sink) (g.S.Sink.taken c.write_value.new.sink) c.args.out.now.taken c.gather_front.new.out.taken c.write_value.new.out.taken (Counts-trans (g.S.Sink.taken c.args.sink.now) (g.S.Sink.taken c.values.sink) (g.S.Sink.taken c.gather_front.new.sink) c.args.out.now.taken c.values.out.taken c.gather_front.new.out.taken c.values.invariant.counted c.in_ok-gather_front.ensures.counted) c.in_ok-write_value.ensures.counted;
   faults = omega (arith, c.values.invariant.faults, c.in_ok-gather_front.ensures.sent.cause.never_falls, c.in_ok-write_value.ensures.sent.cause.never_falls);
   written = λ values feet stand counted short.
       let less = c.values.invariant.within in let more = c.values-test.true in
@@ -165,6 +173,7 @@ pub write_fields-fields-init : goal.write_fields-fields-init
 write_fields-fields-init g t c = record {
   within = omega arith;
   longer = KeepsTaken-refl (g.S.Sink.taken c.args.sink.now);
+  counted = Counts-refl (g.S.Sink.taken c.args.sink.now) c.args.out.now.taken;
   faults = omega arith;
   written = λ held feet stand short. written_none (g.S.Sink.taken c.args.sink.now) (gathered_in c.args.out.now) (fields_text c.args.types.now (fields_in c.args.entries.now) (fields_map concat held));
 }
@@ -200,10 +209,14 @@ write_fields-returns-in_err-write_field-clause-sent g t c =
     let p = err_from_is_err_and c.from_residual.result c.from_residual.ensures.1 in
     sends_more (g.S.Sink.taken c.args.sink.now) (g.S.Sink.taken c.fields.sink) (g.S.Sink.taken c.write_field.new.sink) (g.S.Sink.faults c.args.sink.now) (g.S.Sink.faults c.fields.sink) (g.S.Sink.faults c.write_field.new.sink) c.from_residual.result c.write_field.result p.0 c.fields.invariant.longer c.fields.invariant.faults c.in_err-write_field.ensures.sent p.1
 
+pub write_fields-returns-in_err-write_field-clause-counted : goal.write_fields-returns-in_err-write_field-clause-counted
+write_fields-returns-in_err-write_field-clause-counted g t c = Counts-trans (g.S.Sink.taken c.args.sink.now) (g.S.Sink.taken c.fields.sink) (g.S.Sink.taken c.write_field.new.sink) c.args.out.now.taken c.fields.out.taken c.write_field.new.out.taken c.fields.invariant.counted c.in_err-write_field.ensures.counted
+
 pub write_fields-fields-preserved : goal.write_fields-fields-preserved
 write_fields-fields-preserved g t c = record {
   within = omega (arith, c.fields-test.true);
   longer = KeepsTaken-trans (g.S.Sink.taken c.args.sink.now) (g.S.Sink.taken c.fields.sink) (g.S.Sink.taken c.write_field.new.sink) c.fields.invariant.longer c.in_ok-write_field.ensures.sent.longer;
+  counted = Counts-trans (g.S.Sink.taken c.args.sink.now) (g.S.Sink.taken c.fields.sink) (g.S.Sink.taken c.write_field.new.sink) c.args.out.now.taken c.fields.out.taken c.write_field.new.out.taken c.fields.invariant.counted c.in_ok-write_field.ensures.counted;
   faults = omega (arith, c.fields.invariant.faults, c.in_ok-write_field.ensures.sent.cause.never_falls);
   written = λ held feet stand short.
       let below = c.fields-test.true in

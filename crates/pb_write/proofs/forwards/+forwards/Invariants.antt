@@ -7,7 +7,7 @@ use Rattle.pb_schema.specs.Tree.{ValueListWith, HeldListWith, values_in_list, va
 use Rattle.dyn_message.specs.Feet.{Foot}
 use Rattle.dyn_message.specs.Stands.{ValuesStand, FieldsStand}
 use Rattle.pb_write.specs.Puts.{front_of, fields_in}
-use Rattle.pb_write.specs.Writes.{gathered_in}
+use Rattle.pb_write.specs.Writes.{Counts, gathered_in}
 use Rattle.pb_write.proofs.Parts.{fields_drop, values_drop}
 use Rattle.pb_write.proofs.Writing.{IsWritten}
 use Rattle.pb_write.proofs.forwards.+forwards.Given as goal
@@ -43,6 +43,7 @@ invariant-write_elements-values g l =
     record {
       within : l.i ≤ l.fn.count;
       longer : KeepsTaken (g.S.Sink.taken l.fn.sink) (g.S.Sink.taken l.sink);
+      counted : Counts (g.S.Sink.taken l.fn.sink) (g.S.Sink.taken l.sink) l.fn.out.taken l.out.taken;
       faults : g.S.Sink.faults l.fn.sink ≤ g.S.Sink.faults l.sink;
       written : (values : ValueListWith (List (List ℕ))) (feet : List Foot) → ValuesStand l.fn.types (g.M.Memory.places l.fn.mem) (g.M.Memory.buffers l.fn.mem) (value_type_of l.fn.field.kind) l.fn.elements values feet → length (values_in_list values) ≡ l.fn.count
           → length (values_text l.fn.types l.fn.field (front_of l.fn.packed l.fn.field) (values_map concat values)) < 2 ^ 63
@@ -58,6 +59,7 @@ invariant-write_fields-fields g l =
     record {
       within : l.i ≤ length l.fn.entries;
       longer : KeepsTaken (g.S.Sink.taken l.fn.sink) (g.S.Sink.taken l.sink);
+      counted : Counts (g.S.Sink.taken l.fn.sink) (g.S.Sink.taken l.sink) l.fn.out.taken l.out.taken;
       faults : g.S.Sink.faults l.fn.sink ≤ g.S.Sink.faults l.sink;
       written : (held : HeldListWith (List (List ℕ))) (feet : List Foot) → FieldsStand l.fn.types (g.M.Memory.places l.fn.mem) (g.M.Memory.buffers l.fn.mem) l.fn.bytes l.fn.entries held feet
           → length (fields_text l.fn.types (fields_in l.fn.entries) (fields_map concat held)) < 2 ^ 63

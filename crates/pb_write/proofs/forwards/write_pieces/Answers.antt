@@ -13,7 +13,7 @@ use Rattle.dyn_message.proofs.UnknownLaws.{piece_at}
 use Rattle.pb_write.specs.Writes.{gathered_in}
 use Rattle.pb_write.proofs.Lists.{array_live, count_same, elements_there, element_fits, part_long}
 use Rattle.pb_write.proofs.Parts.{piece_text_at, pieces_end}
-use Rattle.pb_write.proofs.Taken.{KeepsTaken-trans}
+use Rattle.pb_write.proofs.Taken.{KeepsTaken-trans, Counts-trans}
 use Rattle.pb_write.proofs.Writing.{IsWritten, written_more, written_failed, written_all, failed_with}
 use Rattle.pb_write.proofs.forwards.write_pieces.Goals as goal
 
@@ -75,6 +75,7 @@ pub pieces-preserved : goal.pieces-preserved
 pieces-preserved g c = record {
   within = omega (arith, c.pieces-test.true);
   longer = KeepsTaken-trans (g.S.Sink.taken c.args.sink.now) (g.S.Sink.taken c.pieces.sink) (g.S.Sink.taken c.gather.new.sink) c.pieces.invariant.longer c.in_ok-gather.ensures.sent.longer;
+  counted = Counts-trans (g.S.Sink.taken c.args.sink.now) (g.S.Sink.taken c.pieces.sink) (g.S.Sink.taken c.gather.new.sink) c.args.out.now.taken c.pieces.out.taken c.gather.new.out.taken c.pieces.invariant.counted c.in_ok-gather.ensures.counted;
   faults = omega (arith, c.pieces.invariant.faults, c.in_ok-gather.ensures.sent.cause.never_falls);
   written = λ pieces feet holds.
       let there = elements_there (g.M.Memory.places c.args.mem.now) array_slot (length pieces) (part c.args.at array_slot c.args.bytes.now) feet holds c.list_at-count.result.0 c.list_at-count.result.1 c.list_at-count.ensures.place c.list_at-count.ensures.count c.if-count-eq0.false c.read-elements.result.now c.read-elements.ensures.value in

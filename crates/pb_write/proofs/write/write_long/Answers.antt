@@ -1,4 +1,4 @@
-use Rattle.std.proofs.Common.{arith}
+use Rattle.std.proofs.Common.{refl, arith}
 use Rattle.pb_write.proofs.Depths.{message_deep}
 use Rattle.pb_write.proofs.Writing.{part_at_last}
 use Rattle.pb_write.specs.Texts.{shape_text}
@@ -15,5 +15,5 @@ write_text-requires g c =
 pub returns-clause-err : goal.returns-clause-err
 returns-clause-err g c = λ t feet stand short.
     let S = g.S.Sink in
-    part_at_last (S.taken c.args.sink.now) (S.taken c.write_text.new.sink) (S.taken c.hand_over.new.sink) (gathered_in c.new-out.result) (gathered_in c.write_text.new.out) c.text.result.now (shape_text c.args.types.now c.args.msg.type_no t) c.hand_over.result
-    c.in_ok-write_text.ensures.sent.longer c.new-out.ensures (c.in_ok-write_text.ensures.written t feet stand.message short).ok c.text.ensures c.hand_over.ensures.err
+    part_at_last (S.taken c.args.sink.now) (S.taken c.write_text.new.sink) (S.taken c.send.new.sink) (gathered_in c.new-out.result) (gathered_in c.write_text.new.out) (gathered_in c.write_text.new.out) (shape_text c.args.types.now c.args.msg.type_no t) c.send.result
+    c.in_ok-write_text.ensures.sent.longer c.new-out.ensures.text (c.in_ok-write_text.ensures.written t feet stand.message short).ok refl c.send.ensures.err
