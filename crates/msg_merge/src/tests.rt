@@ -3,7 +3,7 @@ ghost use Rattle.std.specs.Prelude.{◌≡◌, ◌<◌, ◌^◌, IfOk, length};
 ghost use Rattle.pb_schema.specs.Builtin.{builtin as builtin_schema};
 ghost use Rattle.msg_merge.specs.Extents.{IsBounded, IsCountable};
 
-use crate::{depth, units};
+use crate::{copy, depth, units};
 use arena_mem::{MemFault, Memory, PlainMemory};
 use dyn_message::{
     MsgRef, append_scalar, append_unknown, count, create, link_sub, make_sub, set_bytes,
@@ -77,5 +77,32 @@ fn levels_are_counted(rt: HostRuntime) -> Result<(), Fail> {
         let top = chain(&mut mem, &types, levels)?;
         assert_eq!(rt; depth(&mem, &types, top), levels);
     }
+    Ok(())
+}
+
+// A copy in another memory.
+fn copied<M: Memory, N: Memory>(
+    mem: &mut M,
+    types: &Layouts,
+    other: &N,
+    msg: MsgRef,
+) -> Result<MsgRef, MemFault>
+    requires { IsBounded types.now (N.places other.now) (N.buffers other.now) msg }
+    ensures { IfOk result (λ copy. IsBounded types.now (M.places mem.new) (M.buffers mem.new) copy) }
+{
+    match copy(mem, types, other, msg) {
+        Ok(copy) => Ok(copy),
+        Err(fault) => Err(fault),
+    }
+}
+
+#[test]
+fn levels_are_copied(rt: HostRuntime) -> Result<(), Fail> {
+    let types = layouts(rt.alloc(), builtin(rt.alloc())?)?;
+    let mut other = PlainMemory::new(rt.alloc());
+    let top = chain(&mut other, &types, 99)?;
+    let mut mem = PlainMemory::new(rt.alloc());
+    let copy = copied(&mut mem, &types, &other, top)?;
+    assert_eq!(rt; depth(&mem, &types, copy), 99);
     Ok(())
 }
