@@ -114,26 +114,31 @@ module _ (a : ArenaState) (s : SerialState) where
 pub joined : (a after : ArenaState) (s : SerialState) (p : Place) → after ≡ with_region a s → IsSerial s → IsLive (places_of s) p → Lookups a → Lookups after → AreJoined a s after
 joined a after s p is serial live old new = subst (AreJoined a s) (sym is) (joined_here a s old (subst Lookups is new) (block_there s p serial live))
 
--- a link between two states of an arena
-abbrev pub Links : Schema → MsgRef → ℕ → MsgRef → ArenaState → ArenaState → Type 0
-Links schema msg field child before after =
+-- a link between two states of a memory
+abbrev pub Links : Schema → MsgRef → ℕ → MsgRef → Places → Buffers → Places → Buffers → Type 0
+Links schema msg field child places buffers places' buffers' =
     (t : Shape) (feet : List Foot) (u : Shape) (own : List Foot)
-    → Stands schema (arena_places before) (arena_buffers before) msg t feet
-    → Stands schema (arena_places before) (arena_buffers before) child u own → Separate own feet
-    → IsLinked schema (arena_places after) (arena_buffers after) msg (with_held schema msg.type_no field (One (Sub u)) t) feet own field child
+    → Stands schema places buffers msg t feet
+    → Stands schema places buffers child u own → Separate own feet
+    → IsLinked schema places' buffers' msg (with_held schema msg.type_no field (One (Sub u)) t) feet own field child
 
--- an owner is entered as the arena is
-pub entered_same : (before start : ArenaState) (caller at : ℕ) → IsEntered before caller start at → Owns before.owners caller → start ≡ before
-entered_same before start caller at entered owner = entered.same owner
+-- an owner is entered as the arena is, and has afterwards what it left
+pub linked_alone : (schema : Schema) (msg : MsgRef) (field : ℕ) (child : MsgRef) (before start : ArenaState) (caller at : ℕ) → IsEntered before caller start at → Owns before.owners caller
+    → (places places' : Places) (buffers buffers' : Buffers) → places' ≡ places → buffers' ≡ buffers
+    → Links schema msg field child (arena_places start) (arena_buffers start) places buffers → Links schema msg field child (arena_places before) (arena_buffers before) places' buffers'
+linked_alone schema msg field child before start caller at entered owner places places' buffers buffers' places_are buffers_are links =
+    subst (λ (a : ArenaState). Links schema msg field child (arena_places a) (arena_buffers a) places' buffers') (entered.same owner)
+    (subst (λ (p : Places). Links schema msg field child (arena_places start) (arena_buffers start) p buffers') (sym places_are)
+    (subst (λ (b : Buffers). Links schema msg field child (arena_places start) (arena_buffers start) places b) (sym buffers_are) links))
 
-pub used_alone : (before start last : ArenaState) (caller at : ℕ) → IsEntered before caller start at → Owns before.owners caller → KeepsAllElse at start last → IsUsedBy caller before last
-used_alone before start last caller at entered owner keeps =
+pub used_alone : (before start last now : ArenaState) (caller at : ℕ) → IsEntered before caller start at → Owns before.owners caller → last ≡ now → KeepsAllElse at start now → IsUsedBy caller before last
+used_alone before start last now caller at entered owner is keeps =
     let same = entered.same owner in
     record {
       at = at;
       there = subst (λ (a : ArenaState). at < length a.owners) same entered.there;
       own = subst (λ (a : ArenaState). (owner_at a.owners at).caller ≡ caller) same entered.own;
-      keeps = subst (λ (a : ArenaState). KeepsAllElse at a last) same keeps;
+      keeps = subst (λ (a : ArenaState). KeepsAllElse at a last) same (subst (λ (a : ArenaState). KeepsAllElse at start a) (sym is) keeps);
     }
 
 -- a message stands where all that was there keeps its bytes

@@ -1,3 +1,4 @@
+pub mod Alone
 pub mod Crossing
 pub mod Joining
 pub mod Pairing

@@ -1,6 +1,5 @@
 -- Two nodes in one memory, and the fields of a node, for the tests.
-use Rattle.std.proofs.Common.{◌≡◌, ◌≤◌, ◌<◌, ℕ, List, [], ◌∷◌, None, refl, sym, ap, ◌∙◌, inr, arith}
-use Rattle.std.specs.FinMap as fin
+use Rattle.std.proofs.Common.{◌≡◌, ℕ, List, [], ◌∷◌, refl, sym, ap, ◌∙◌, inr, arith}
 use Rattle.arena_mem.specs.Places.{Places, Buffers, KeepsRest, KeepsBuffers}
 use Rattle.pb_schema.specs.declared.schema.Schema.{Schema}
 use Rattle.pb_schema.specs.Builtin.{builtin}
@@ -10,7 +9,7 @@ use Rattle.pb_schema.specs.Tree.{Shape}
 use Rattle.dyn_message.specs.declared.msg_ref.MsgRef.{MsgRef}
 use Rattle.dyn_message.specs.Changes.{IsFreshEmpty}
 use Rattle.dyn_message.specs.Feet.{Foot, InPlace, foot_bytes}
-use Rattle.dyn_message.specs.Fields.{HasMessage, HasNumber, IsMessageType, IsNumberType, TakesNumber}
+use Rattle.dyn_message.specs.Fields.{HasBytes, HasMessage, HasNumber, IsBytesType, IsMessageType, IsNumberType, TakesNumber}
 use Rattle.dyn_message.specs.Links.{LinksTo}
 use Rattle.dyn_message.specs.Stands.{IsSingle, Stands}
 use Rattle.dyn_message.proofs.Counting.{one_is}
@@ -25,6 +24,9 @@ count_field schema n is node = node_has IsSingle IsNumberType schema n 2 is node
 
 pub count_takes : (schema : Schema) (n : ℕ) → schema ≡ builtin → n ≡ 1 → TakesNumber schema n 2 7
 count_takes schema n is node = node_has IsSingle (λ type. IsPatternOf type 7) schema n 2 is node (record { field = _; found = refl; card = tt; type = omega arith })
+
+pub blob_field : (schema : Schema) (n : ℕ) → schema ≡ builtin → n ≡ 1 → HasBytes schema n 5
+blob_field schema n is node = node_has IsSingle IsBytesType schema n 5 is node (record { field = _; found = refl; card = tt; type = tt })
 
 pub next_field : (schema : Schema) (n : ℕ) → schema ≡ builtin → n ≡ 1 → HasMessage schema n 6
 next_field schema n is node = node_has IsSingle IsMessageType schema n 6 is node (record { field = _; found = refl; card = tt; type = tt })
