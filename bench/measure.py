@@ -1,5 +1,6 @@
 """What the scripts of this folder share: the built program, programs in C and C++, and times of whole processes."""
 import os
+import shutil
 import subprocess
 import sys
 import time
@@ -27,6 +28,29 @@ def compiled(source, folder):
     """The path of a program in C from this folder, built by `cc -O2`."""
     out = Path(folder, Path(source).stem)
     subprocess.run(["cc", "-O2", "-o", out, BENCH / source], check=True)
+    return out
+
+
+def repository(folder, crates, program):
+    """The folder of a crate to be written, in a repository of these crates. `program` is the crate's line of crates.txt."""
+    for crate in crates:
+        shutil.copytree(TOP / "crates" / crate, folder / "crates" / crate, ignore=shutil.ignore_patterns("out", "must-fail"))
+    lines = (TOP / "crates.txt").read_text().splitlines(True)
+    (folder / "crates.txt").write_text("".join(line for line in lines if line.split(":")[0] in crates) + program)
+    shutil.copy(TOP / "HANDLES", folder)
+    crate = folder / "crates" / program.split(":")[0]
+    (crate / "src").mkdir(parents=True)
+    return crate
+
+
+def proved(crate, source, out):
+    """The path of a program of this source, proved and built in its crate. Ends the script where it can't be."""
+    (crate / "src/main.rt").write_text(source)
+    done = subprocess.run(["rt", "run"], cwd=crate, capture_output=True, text=True)
+    built = crate / "out" / crate.name
+    if done.returncode != 0 or not built.exists():
+        sys.exit(done.stdout[-3000:] + done.stderr[-3000:] + "nothing was measured: the program wasn't built")
+    shutil.copy(built, out)
     return out
 
 

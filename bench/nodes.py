@@ -7,14 +7,13 @@ The program over `dyn_message` is made here and proved and built in a copy of th
 the same over the classes that protoc makes, and over dynamic messages through `Reflection`, with the fields' descriptors
 found beforehand. All have to print the same sum of what was read. Processor times, best of several runs that take turns.
 """
-import shutil
 import subprocess
 import sys
 import tempfile
 from pathlib import Path
 
 sys.dont_write_bytecode = True
-from measure import BENCH, TOP, best, timed
+from measure import BENCH, best, proved, repository, timed
 
 BELOW = "no_memory ghost_list arena_mem arena_block cleanup_list serial_arena pb_schema msg_layout dyn_message".split()
 USES = "nodes: arena_mem arena_block serial_arena pb_schema msg_layout dyn_message\n"
@@ -206,15 +205,7 @@ def answers(name):
     return text + (SET if name == "put_count" else "")
 
 
-def copied(folder):
-    """A repository of the crates below the program."""
-    for crate in BELOW:
-        shutil.copytree(TOP / "crates" / crate, folder / "crates" / crate, ignore=shutil.ignore_patterns("out", "must-fail"))
-    lines = (TOP / "crates.txt").read_text().splitlines(True)
-    (folder / "crates.txt").write_text("".join(line for line in lines if line.split(":")[0] in BELOW) + USES)
-    shutil.copy(TOP / "HANDLES", folder)
-    crate = folder / "crates/nodes"
-    (crate / "src").mkdir(parents=True)
+def with_proofs(crate):
     for name in FIELDS:
         (crate / "proofs" / name).mkdir(parents=True)
         (crate / "proofs" / name / "Answers.antt").write_text(answers(name))
@@ -223,13 +214,7 @@ def copied(folder):
 
 def built(crate, lives, each):
     """The program for so many arenas of so many messages, proved and built."""
-    (crate / "src/main.rt").write_text(PROGRAM.replace("@LIVES", str(lives)).replace("@EACH", str(each)))
-    done = subprocess.run(["rt", "run"], cwd=crate, capture_output=True, text=True)
-    if done.returncode != 0 or not (crate / "out/nodes").exists():
-        sys.exit(done.stdout[-3000:] + done.stderr[-3000:] + "nothing was measured: the program wasn't built")
-    out = crate / f"nodes_{lives}"
-    shutil.copy(crate / "out/nodes", out)
-    return out
+    return proved(crate, PROGRAM.replace("@LIVES", str(lives)).replace("@EACH", str(each)), crate / f"nodes_{lives}")
 
 
 def summed(command):
@@ -242,7 +227,7 @@ def main(runs="15"):
         theirs = folder / "cpp_nodes"
         if subprocess.run([BENCH / "cpp/build.sh", theirs, "nodes.cc"], check=False).returncode != 0:
             sys.exit("nothing was measured: the program in C++ wasn't built")
-        crate = copied(folder / "repository")
+        crate = with_proofs(repository(folder / "repository", BELOW, USES))
         print("arenas  messages     ms    MiB   over generated   over reflection   (time, peak)")
         for lives, each in SHAPES:
             rows = {"ours": [built(crate, lives, each)]}
