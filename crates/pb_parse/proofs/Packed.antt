@@ -81,20 +81,20 @@ module _ (schema : Schema) (msg : MsgRef) (number : ℕ) (coding : Coding) (fiel
       let next : before + suc p.done ≡ between + 1 = omega (arith, p.counted) in
       let full = all_entries schema p1 b1 msg p.shape p.stands.now p.stands.stands in
       record {
-    done = suc p.done;
-    counted = omega (arith, one_longer (Number bits) p.shape full, p.counted);
-    left = omega (arith, p.left, ap length step);
-    costs = costs_add schema p0 p1 p2 b0 b1 b2 (λ meter. meter.growth size before (before + p.done)) (λ meter. meter.growth size between (between + 1)) (λ meter. meter.growth size before (before + suc p.done))
-        p.costs (array_placed schema p1 p2 b1 b2 size between (between + 1) space same)
-        (λ meter grows. ap (meter.growth size before) next
-        ∙ (grows.parts size before between (between + 1) (omega (arith, p.counted)) (omega arith) ∙ ap (λ k. meter.growth size before k + meter.growth size between (between + 1)) p.counted));
-    shape = with_appended schema msg.type_no number (Number bits) p.shape;
-    stands = then_stands schema p0 p1 p2 b0 b1 b2 msg p.shape _ feet still p.stands put;
-    goes = p.goes
-        ∙ (ap (λ xs. listed schema msg.type_no number (value_list (map (λ x. Number (pattern_in coding x)) xs)) p.shape) step
-        ∙ (ap (λ b. listed schema msg.type_no number (ValueAnd (Number b) (numbers_of coding (drop n s))) p.shape) (sym is)
-        ∙ listed_more schema msg.type_no number field (Number bits) (numbers_of coding (drop n s)) p.shape known full));
-  }
+        done = suc p.done;
+        counted = omega (arith, one_longer (Number bits) p.shape full, p.counted);
+        left = omega (arith, p.left, ap length step);
+        costs = costs_add schema p0 p1 p2 b0 b1 b2 (λ meter. meter.growth size before (before + p.done)) (λ meter. meter.growth size between (between + 1)) (λ meter. meter.growth size before (before + suc p.done))
+            p.costs (array_placed schema p1 p2 b1 b2 size between (between + 1) space same)
+            (λ meter grows. ap (meter.growth size before) next
+            ∙ (grows.parts size before between (between + 1) (omega (arith, p.counted)) (omega arith) ∙ ap (λ k. meter.growth size before k + meter.growth size between (between + 1)) p.counted));
+        shape = with_appended schema msg.type_no number (Number bits) p.shape;
+        stands = then_stands schema p0 p1 p2 b0 b1 b2 msg p.shape _ feet still p.stands put;
+        goes = p.goes
+            ∙ (ap (λ xs. listed schema msg.type_no number (value_list (map (λ x. Number (pattern_in coding x)) xs)) p.shape) step
+            ∙ (ap (λ b. listed schema msg.type_no number (ValueAnd (Number b) (numbers_of coding (drop n s))) p.shape) (sym is)
+            ∙ listed_more schema msg.type_no number field (Number bits) (numbers_of coding (drop n s)) p.shape known full));
+      }
 
   -- nothing is left: the message stands with all of them
   pub packed_all : Lawful schema → IsList field.card → (p0 p1 : Places) (b0 b1 : Buffers) (all s : List ℕ) (t : Shape) (feet : List Foot) → s ≡ [] → PackedTo schema p0 b0 p1 b1 msg number coding all s t feet
