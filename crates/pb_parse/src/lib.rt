@@ -3,7 +3,8 @@
 //! It stands on the readers of `pb_wire` and the messages of `dyn_message`, and whatever reads frames stands on it. Its
 //! contract: a payload without a fault leaves the message standing for what the definitions decode it to, with the unknown
 //! bytes of each message's payload as one piece; a payload with a fault is refused with the first one, of that kind and at
-//! that byte; and all that the message didn't stand on keeps its bytes.
+//! that byte; all that the message didn't stand on keeps its bytes; and what the memory holds more, in bytes of places and
+//! in buffers, is exactly what the payload counts.
 #![tactic(auto)]
 
 mod contents;

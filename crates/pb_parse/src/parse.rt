@@ -33,6 +33,10 @@ use std::alloc::Global;
 ///
 /// `Bad` tells exactly the first fault. `NoMemory` and `BlocksSpent` may come before a fault is seen. After a refusal
 /// the message isn't to be read, and all that it didn't stand on is as it was.
+///
+/// What it places and keeps is exactly what the payload counts by itself, less the record that is there already: each
+/// record of a text or bytes is put anew, an array grows value by value, and a message is one record. Whatever the memory,
+/// two readings of the same payload cost the same.
 pub fn parse_into<M: Memory>(
     alloc: Global,
     mem: &mut M,
