@@ -1,5 +1,6 @@
 -- A worker in a phase, and its part of the arena that is settled behind it.
 use Rattle.std.proofs.Common.{◌≡◌, ◌<◌, ℕ, List, length, Some, sym, ap, ◌∙◌, arith, subst}
+use Rattle.std.proofs.lemmas.Option.{same_Some}
 use Rattle.std.specs.Prelude.{IsSome}
 use mathlib.Core.Option.{some}
 use lib.ListN.{get_elem?}
@@ -20,9 +21,6 @@ use Rattle.parse_pool.specs.Phases.{PhaseState}
 use Rattle.parse_pool.specs.Starting.{AreCounted}
 use Rattle.parse_pool.specs.Workers.{WorkerState}
 use Rattle.parse_pool.proofs.Picked.{own_number}
-
-pub one_pass : (p q : Pass) → Some p ≡ Some q → p ≡ q
-one_pass p q same = cc
 
 module _ (ph : PhaseState) (passes passes' : List Pass) (caches caches' : List CacheState) (messages : List MsgRef) (end : PoolEnd) (run : HasRun ph passes passes' caches caches' messages end) where
   -- the worker of this number, with its pass and cache before and after
@@ -48,8 +46,8 @@ module _ (ph : PhaseState) (passes passes' : List Pass) (caches caches' : List C
       let c = at_there caches k (omega (arith, low, long)) in
       let seat = run.begun.each k s.0 p.0 c.0 s.1 p.1 c.1 in
       let did = run.work.each k s.0 w.0 s.1 w.1 in
-      let before : did.before ≡ p.0 = one_pass did.before p.0 (sym did.was ∙ seat.pass_is) in
-      let now : did.now ≡ q.0 = one_pass did.now q.0 (sym did.is ∙ run.left.pass k w.0 q.0 w.1 q.1) in
+      let before : did.before ≡ p.0 = same_Some did.before p.0 (sym did.was ∙ seat.pass_is) in
+      let now : did.now ≡ q.0 = same_Some did.now q.0 (sym did.is ∙ run.left.pass k w.0 q.0 w.1 q.1) in
       record {
         new = w.0;
         there = w.1;

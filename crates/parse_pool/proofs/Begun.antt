@@ -1,5 +1,6 @@
 -- What a phase begins with, and what it leaves where it doesn't begin.
 use Rattle.std.proofs.Common.{◌≡◌, ◌<◌, ℕ, List, length, Some, refl, sym, ap, ◌∙◌, inl, arith}
+use Rattle.arena_list.proofs.Words.Lists.{at_below}
 use mathlib.Core.Option.{some, some-injective}
 use lib.ListN.{get_elem?}
 use Rattle.life_ids.specs.Cache.{CacheState}
@@ -15,7 +16,6 @@ use Rattle.parse_pool.specs.Leaving.{Leaves}
 use Rattle.parse_pool.specs.declared.pool_end.PoolEnd.{PoolEnd}
 use Rattle.parse_pool.specs.declared.pool_end.PoolEnd.TheVariants.{BadFrame, BlocksSpent, Done, NoMemory}
 use Rattle.parse_pool.specs.Starting.{AreCounted, AreInOrder, FitOwners, FitPasses}
-use Rattle.parse_pool.proofs.MadeAt.{at_low}
 use Rattle.parse_pool.proofs.Picked.{own_number}
 
 -- AN ARENA THAT STAYS AS IT WAS
@@ -57,7 +57,7 @@ leaves_none schema root first payloads workers a caches messages fit = record {
 module _ (a : ArenaState) (sh : SharedState) (numbers : List ℕ) (passes : List Pass) (shared : IsSharedFrom a numbers sh) (first : AreFirstPasses a numbers sh passes) (counted : AreCounted numbers) where
   -- the pass at each place is that of the caller with its number
   low_number : (k : ℕ) (p : Pass) → get_elem? passes k ≡ some p → k < length numbers
-  low_number k p at = omega (arith, at_low passes k p at, first.count)
+  low_number k p at = omega (arith, at_below passes k p at, first.count)
 
   pub in_order : AreInOrder passes
   in_order k p at = (first.each k k p (own_number a sh numbers passes first counted k (low_number k p at)) at).who

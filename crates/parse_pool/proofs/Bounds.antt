@@ -109,6 +109,10 @@ all_dealt most n g (suc m) some_worker few =
     let low = mod_below m n some_worker in
     omega (arith, sum_plus most (dealt n g m) (λ k. cond (eqb (m % n) k) (g m) 0), all_dealt most n g m some_worker few, sum_one most (m % n) (g m) (omega (arith, low, few)))
 
+-- the worker of the frame of a turn
+pub mod_of : (k t n : ℕ) → k < n → (k + t * n) % n ≡ k
+mod_of k t n low = ap (λ (i : ℕ). i % n) (let z : k + t * n ≡ t * n + k = omega arith in z) ∙ mod-mul-add t n k low
+
 -- the frames of a worker's turns are among these
 pub in_dealt : (n : ℕ) (g : ℕ → ℕ) (k : ℕ) → k < n → (m turns : ℕ) → ((t : ℕ) → t < turns → k + t * n < m) → sum_to turns (λ t. g (k + t * n)) ≤ dealt n g m k
 unfolding dealt
@@ -125,6 +129,3 @@ in_dealt n g k low (suc m) (suc turns) within = ⊎_elim
     let before = in_dealt n g k low m (suc turns) (λ t less. let more = mul-le t n turns n (omega (arith, less)) (omega arith) in omega (arith, l, more)) in
     omega (arith, before))
     (same_or_less (k + turns * n) m (within turns (omega arith)))
-  where
-    mod_of : (k t n : ℕ) → k < n → (k + t * n) % n ≡ k
-    mod_of k t n low = ap (λ (i : ℕ). i % n) (let z : k + t * n ≡ t * n + k = omega arith in z) ∙ mod-mul-add t n k low

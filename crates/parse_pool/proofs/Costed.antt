@@ -1,5 +1,6 @@
 -- What a phase costs an arena, where all frames were parsed.
 use Rattle.std.proofs.Common.{◌≡◌, ◌⊎◌, ◌+◌, ◌*◌, ◌<◌, ◌≤◌, ℕ, zero, suc, List, length, map, drop, refl, sym, ap, ◌∙◌, inl, inr, ⊎_elim, arith, subst}
+use Rattle.std.proofs.lemmas.Bool.{cases_lt}
 use Rattle.std.specs.Prelude.{sum_by}
 use Rattle.std.specs.FinMap as fin
 use Rattle.std.proofs.lemmas.List.{length-drop, length-take}
@@ -36,7 +37,7 @@ use Rattle.parse_pool.specs.Starting.{AreBelow, AreCounted}
 use Rattle.parse_pool.proofs.AllMade.{payload_is}
 use Rattle.parse_pool.proofs.AtWork.{AtWork, at_work, grown_of}
 use Rattle.parse_pool.proofs.Bounds.{all_dealt, dealt, sum_list, sum_to}
-use Rattle.parse_pool.proofs.Exact.{IsNumberIn, is_dealt, none_dealt, split, sum_all, sum_equals}
+use Rattle.parse_pool.proofs.Exact.{IsNumberIn, is_dealt, none_dealt, sum_all, sum_equals}
 use Rattle.parse_pool.proofs.Picked.{picked}
 use Rattle.parse_pool.proofs.Sides.{owners_after}
 use Rattle.parse_pool.proofs.Totalled.{Turned, new_became, owner_became, sum_mapped}
@@ -71,7 +72,7 @@ module _ (ph : PhaseState) (passes passes' : List Pass) (caches caches' : List C
       let all : length w.new.results ≡ w.turns = ⊎_elim
       (λ less. let within = w.turned.there (length w.new.results) less in absurd (omega (arith, within, past)))
       (λ more. omega (arith, more, w.turned.begun.0))
-      (split (length w.new.results) w.turns) in
+      (cases_lt (length w.new.results) w.turns) in
       (all, omega (arith, past, ap (λ (n : ℕ). ph.first + k + n * ph.workers) all, ap (λ (n : ℕ). w.turns * n) sized))
 
   turns_cost : (meter : Meter) (k : ℕ) (w : AtWork ph passes passes' caches caches' messages end run k) → k < length passes → cost_in meter ph k w.turns ≡ dealt (length passes) (costs_of meter ph) ph.count k
@@ -96,9 +97,9 @@ module _ (ph : PhaseState) (passes passes' : List Pass) (caches caches' : List C
       (λ none.
       let zero_turns : w.turns ≡ 0 = omega (arith, none) in
       inr (sym (turns_cost meter k w low) ∙ ap (λ (t : ℕ). cost_in meter ph k t) zero_turns))
-      (split 0 w.turns))
+      (cases_lt 0 w.turns))
       (λ high. inr (none_dealt (length passes) (costs_of meter ph) ph.count k some_worker high))
-      (split k (length passes))
+      (cases_lt k (length passes))
 
   module _ (meter : Meter) (P : SerialState → ℕ) (none : (k at : ℕ) → P (empty_part a.policy a.life k at) ≡ 0) (costs : (part grown : SerialState) (k turns : ℕ) (results : List FrameResult) → length results ≡ turns → HasParsed ph k turns part grown results → P grown ≡ P part + cost_in meter ph k turns) where
     abbrev dealt_to : ℕ → ℕ

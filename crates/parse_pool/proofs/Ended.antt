@@ -1,5 +1,6 @@
 -- How a phase ended, for one worker and for all.
 use Rattle.std.proofs.Common.{◌≡◌, ◌⊎◌, ◌-◌, ◌/◌, ◌%◌, ◌<◌, ◌≤◌, ℕ, zero, suc, List, [], ◌∷◌, length, None, Some, refl, sym, ap, subst, ◌∙◌, inl, inr, ⊎_elim, arith}
+use Rattle.std.proofs.lemmas.Bool.{cases_lt}
 use Rattle.std.proofs.lemmas.Nat.{mul-le, mod_below, div-add-mod'}
 use Rattle.std.proofs.lemmas.Option.{same_Some}
 use Rattle.serial_arena.specs.Serial.{SerialState, blocks_of}
@@ -19,12 +20,7 @@ use Rattle.parse_pool.specs.Ends.{AreNumbered, HaveWorked, IsTaken, IsSound, End
 module _ (ph : PhaseState) where
   -- an earlier frame is that of an earlier turn
   pub earlier : (worker turn other : ℕ) → frame_of ph worker turn < frame_of ph worker other → turn < other
-  earlier worker turn other less = ⊎_elim (λ lt. lt) (λ ge. let more = mul-le other ph.workers turn ph.workers ge (omega arith) in absurd (omega arith)) (split turn other)
-    where
-      split : (a b : ℕ) → (a < b) ⊎ (b ≤ a)
-      split a zero = inr (omega arith)
-      split zero (suc b) = inl (omega arith)
-      split (suc a) (suc b) = ⊎_elim (λ l. inl (omega (arith, l))) (λ g. inr (omega (arith, g))) (split a b)
+  earlier worker turn other less = ⊎_elim (λ lt. lt) (λ ge. let more = mul-le other ph.workers turn ph.workers ge (omega arith) in absurd (omega arith)) (cases_lt turn other)
 
   module _ (w : WorkerState) (now : Pass) (pass_is : w.pass ≡ Some now) (sound : (turn : ℕ) → turn < length w.results → fault_at ph (frame_of ph w.number turn) ≡ None) where
     sound_one : (bound : ℕ) → bound ≤ frame_of ph w.number (length w.results) → IsSound ph (w ∷ []) bound

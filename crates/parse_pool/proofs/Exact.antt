@@ -1,7 +1,7 @@
 -- Sums over workers that are exactly those over frames.
 use Rattle.std.proofs.Common.{◌≡◌, ◌⊎◌, ◌+◌, ◌*◌, ◌/◌, ◌%◌, ◌<◌, ◌≤◌, ℕ, zero, suc, true, false, Bool, cond, eqb, not, List, [], ◌∷◌, filter, length, refl, sym, ap, ◌∙◌, inl, inr, ⊎_elim, arith}
 use Rattle.std.specs.Prelude.{sum_by}
-use Rattle.std.proofs.lemmas.Bool.{cases_Bool, eqb-true, eq-eqb, false≢true, ne_eqb}
+use Rattle.std.proofs.lemmas.Bool.{cases_Bool, cases_lt, eq-eqb, eqb-true, false≢true, ne_eqb}
 use Rattle.std.proofs.lemmas.List.Sums.{sum_by-cons}
 use Rattle.std.proofs.lemmas.Nat.{div-add-mod', mod-mul-add, mod_below, mul-le}
 use mathlib.Core.Option.{some, some-injective, some-ne-none}
@@ -9,12 +9,7 @@ use lib.ListN.{get_elem?}
 use Rattle.arena_list.specs.Rule.Founded.{Differ}
 use Rattle.arena_list.proofs.Rule.Opening.{differ_filter, differ_tail, filter_keeps, filter_tells}
 use Rattle.arena_list.proofs.Words.Lists.{all_kept}
-use Rattle.parse_pool.proofs.Bounds.{dealt, same_or_less, sum_to}
-
-pub split : (a b : ℕ) → (a < b) ⊎ (b ≤ a)
-split a zero = inr (omega arith)
-split zero (suc b) = inl (omega arith)
-split (suc a) (suc b) = ⊎_elim (λ l. inl (omega (arith, l))) (λ g. inr (omega (arith, g))) (split a b)
+use Rattle.parse_pool.proofs.Bounds.{dealt, mod_of, same_or_less, sum_to}
 
 -- OWNERS
 
@@ -75,7 +70,7 @@ not_own m k turns n before behind own =
     ⊎_elim
     (λ l. let more = mul-le (suc (m / n)) n turns n (omega (arith, l)) (omega arith) in omega (arith, more, whole, own, behind))
     (λ g. let more = mul-le turns n (m / n) n g (omega arith) in omega (arith, more, whole, own, before))
-    (split (m / n) turns)
+    (cases_lt (m / n) turns)
 
 -- what the frames count that a worker takes that isn't there
 pub none_dealt : (n : ℕ) (g : ℕ → ℕ) (m k : ℕ) → 1 ≤ n → n ≤ k → dealt n g m k ≡ 0
@@ -106,6 +101,3 @@ is_dealt n g k low (suc m) (suc turns) within past = ⊎_elim
     let other = ap (λ (b : Bool). cond b (g m) 0) (ne_eqb (m % n) k (not_own m k (suc turns) n (omega (arith, past)) (omega (arith, l)))) in
     omega (arith, before, other))
     (same_or_less (k + turns * n) m (within turns (omega arith)))
-  where
-    mod_of : (k t n : ℕ) → k < n → (k + t * n) % n ≡ k
-    mod_of k t n low = ap (λ (i : ℕ). i % n) (let z : k + t * n ≡ t * n + k = omega arith in z) ∙ mod-mul-add t n k low

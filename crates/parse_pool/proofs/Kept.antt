@@ -1,5 +1,6 @@
 -- What was in an arena when it was shared keeps its bytes until it is settled.
 use Rattle.std.proofs.Common.{◌≡◌, ◌<◌, ℕ, not, List, [], length, Option, Some, refl, sym, ap, ◌∙◌, inl, inr, ⊎_elim, arith, subst}
+use Rattle.arena_list.proofs.Words.Lists.{at_below}
 use Rattle.std.specs.Prelude.{IsSome, IfSome}
 use Rattle.std.specs.FinMap as fin
 use Rattle.std.proofs.lemmas.Bool.{cases_Bool}
@@ -28,7 +29,6 @@ use Rattle.parse_pool.specs.Phases.{PhaseState}
 use Rattle.parse_pool.specs.Starting.{AreCounted}
 use Rattle.parse_pool.proofs.AtWork.{at_work, grown_of}
 use Rattle.parse_pool.proofs.Picked.{own_number}
-use Rattle.parse_pool.proofs.Starting.{at_below}
 
 -- what is live or kept in a part keeps its bytes in an arena
 pub record KeepsPart (s : SerialState) (b : ArenaState) : Type 0 where

@@ -1,5 +1,7 @@
 -- The messages of a phase, each in the part of its worker, and in the arena that is settled.
 use Rattle.std.proofs.Common.{◌≡◌, ◌≢◌, ◌⊎◌, ◌+◌, ◌*◌, ◌<◌, ◌≤◌, ℕ, zero, suc, List, [], ◌∷◌, length, None, Some, refl, sym, ap, ◌∙◌, inl, inr, ⊎_elim, arith, subst}
+use Rattle.arena_list.proofs.Words.Lists.{at_below}
+use Rattle.std.proofs.lemmas.Bool.{cases_lt}
 use Rattle.std.specs.List.{concat}
 use Rattle.std.proofs.lemmas.Nat.{mul-le}
 use mathlib.Core.Option.{some, some-injective, some-ne-none}
@@ -40,19 +42,9 @@ use Rattle.parse_pool.proofs.Made.{foot_named, foot_region, looks_as_whose, look
 use Rattle.parse_pool.proofs.Messages.{stands_on}
 use Rattle.parse_pool.proofs.Picked.{picked}
 
-pub at_low : {A : Type 0} (xs : List A) (i : ℕ) (x : A) → get_elem? xs i ≡ some x → i < length xs
-at_low [] i x e = absurd (some-ne-none x (sym e))
-at_low (y ∷ xs) zero x e = omega arith
-at_low (y ∷ xs) (suc i) x e = let low = at_low xs i x e in omega arith
-
-split : (a b : ℕ) → (a < b) ⊎ (b ≤ a)
-split a zero = inr (omega arith)
-split zero (suc b) = inl (omega arith)
-split (suc a) (suc b) = ⊎_elim (λ l. inl (omega (arith, l))) (λ g. inr (omega (arith, g))) (split a b)
-
 -- of two frames of one worker the earlier one is that of the earlier turn
 earlier_turn : (n k i j turn other : ℕ) → i ≡ k + turn * n → j ≡ k + other * n → i < j → turn < other
-earlier_turn n k i j turn other one two less = ⊎_elim (λ lt. lt) (λ ge. let more = mul-le other n turn n ge (omega arith) in absurd (omega (arith, one, two, less, more))) (split turn other)
+earlier_turn n k i j turn other one two less = ⊎_elim (λ lt. lt) (λ ge. let more = mul-le other n turn n ge (omega arith) in absurd (omega (arith, one, two, less, more))) (cases_lt turn other)
 
 module _ (ph : PhaseState) (passes passes' : List Pass) (caches caches' : List CacheState) (messages : List MsgRef) (end : PoolEnd) (run : HasRun ph passes passes' caches caches' messages end) (long : length caches ≡ length passes) (sized : ph.workers ≡ length passes)
     (a b : ArenaState) (sh : SharedState) (numbers : List ℕ) (first : AreFirstPasses a numbers sh passes) (counted : AreCounted numbers) (settled : IsSettledFrom sh passes' b) (is_a : IsArena a) (is_b : IsArena b) where
@@ -128,13 +120,13 @@ module _ (ph : PhaseState) (passes passes' : List Pass) (caches caches' : List C
   made_at done i msg at =
       let c = (run.collected done).each i msg at in
       let workers : length run.worked ≡ length passes = run.work.count ∙ run.begun.count in
-      let low : c.worker < length passes = omega (arith, at_low run.worked c.worker c.state c.there, workers) in
+      let low : c.worker < length passes = omega (arith, at_below run.worked c.worker c.state c.there, workers) in
       let w = at_work ph passes passes' caches caches' messages end run long c.worker low in
       let new : c.state ≡ w.new = some-injective c.state w.new (sym c.there ∙ w.there) in
       let here : get_elem? w.new.results c.turn ≡ some c.result = sym (ap (λ (x : WorkerState). get_elem? x.results c.turn) new) ∙ c.at in
       let below : c.worker < length numbers = omega (arith, low, first.count) in
       let p = picked a sh numbers passes first counted c.worker w.first below w.first_there in
-      let g = grown_of ph passes passes' caches caches' messages end run a b sh numbers first counted settled is_b c.worker below w p.part p.has_part (w.turned.joined (omega (arith, at_low w.new.results c.turn c.result here))) in
+      let g = grown_of ph passes passes' caches caches' messages end run a b sh numbers first counted settled is_b c.worker below w p.part p.has_part (w.turned.joined (omega (arith, at_below w.new.results c.turn c.result here))) in
       let looks = looks_as_whose a is_a c.worker p.part p.whose (omega (arith, g.region_is, g.slot_is, g.small)) in
       let m = g.parsed.messages c.turn c.result here in
       let frame : c.result.frame ≡ ph.first + i = w.turned.frames c.turn c.result here ∙ frame_is c.worker c.turn i (c.is ∙ ap (λ (n : ℕ). c.worker + c.turn * n) workers) in

@@ -10,7 +10,7 @@ use Rattle.arena_list.specs.Closing.Closed.{entry}
 use Rattle.arena_list.specs.Rule.Founded.{has, node_of}
 use Rattle.arena_list.specs.Words.Nodes.{Begins}
 use Rattle.arena_list.proofs.Rule.Opening.{filter_tells}
-use Rattle.arena_list.proofs.Words.Lists.{at_there}
+use Rattle.arena_list.proofs.Words.Lists.{at_below, at_there}
 use Rattle.pb_schema.specs.Fault.{fault_of}
 use Rattle.pb_schema.specs.declared.wire_fault.WireFault.{WireFault}
 use Rattle.dyn_message.specs.declared.msg_ref.MsgRef.{MsgRef}
@@ -32,7 +32,7 @@ use Rattle.parse_pool.specs.Phases.{PhaseState, payload_at}
 use Rattle.parse_pool.specs.Starting.{AreCounted, FitOwners, FitPasses}
 use Rattle.parse_pool.proofs.AllMade.{payload_is}
 use Rattle.parse_pool.proofs.AtWork.{AtWork, at_work, caller_is}
-use Rattle.parse_pool.proofs.MadeAt.{at_low, made_at}
+use Rattle.parse_pool.proofs.MadeAt.{made_at}
 
 module _ (ph : PhaseState) (passes passes' : List Pass) (caches caches' : List CacheState) (messages : List MsgRef) (end : PoolEnd) (run : HasRun ph passes passes' caches caches' messages end) (long : length caches ≡ length passes) (after_long : length caches' ≡ length caches)
     (a : ArenaState) (sh : SharedState) (of : ph.shared ≡ sh) (numbers : List ℕ) (shared : IsSharedFrom a numbers sh) (first : AreFirstPasses a numbers sh passes) (counted : AreCounted numbers) where
@@ -45,7 +45,7 @@ module _ (ph : PhaseState) (passes passes' : List Pass) (caches caches' : List C
   -- the worker of a pass
   pub of_pass : (k : ℕ) (p : Pass) → get_elem? passes' k ≡ some p → (w : AtWork ph passes passes' caches caches' messages end run k) × (w.last ≡ p) × (k < length passes)
   of_pass k p at =
-      let low : k < length passes = omega (arith, at_low passes' k p at, passes_are) in
+      let low : k < length passes = omega (arith, at_below passes' k p at, passes_are) in
       let w = at_work ph passes passes' caches caches' messages end run long k low in
       (w, some-injective w.last p (sym w.last_there ∙ at), low)
 
@@ -59,7 +59,7 @@ module _ (ph : PhaseState) (passes passes' : List Pass) (caches caches' : List C
   -- each cache fits the pass at its place
   cache_at : (k : ℕ) (cache : CacheState) → get_elem? caches' k ≡ some cache → (w : AtWork ph passes passes' caches caches' messages end run k) × (cache ≡ w.new.cache) × (k < length passes)
   cache_at k cache at =
-      let low : k < length passes = omega (arith, at_low caches' k cache at, after_long, long) in
+      let low : k < length passes = omega (arith, at_below caches' k cache at, after_long, long) in
       let w = at_work ph passes passes' caches caches' messages end run long k low in
       (w, run.left.cache k w.new cache w.there at, low)
 

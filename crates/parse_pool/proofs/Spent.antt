@@ -1,5 +1,7 @@
 -- A region that is told to be spent is one of the arena that is settled.
 use Rattle.std.proofs.Common.{◌≡◌, ◌⊎◌, ◌<◌, ℕ, Bool, cond, List, length, Option, None, Some, refl, sym, ap, ◌∙◌, inl, inr, ⊎_elim, arith, subst}
+use Rattle.std.proofs.lemmas.Option.{same_Some}
+use Rattle.arena_list.proofs.Words.Lists.{at_below}
 use Rattle.std.specs.Prelude.{◌==◌}
 use Rattle.std.specs.FinMap as fin
 use Rattle.std.proofs.lemmas.Bool.{cases_Bool, eqb-true}
@@ -23,8 +25,7 @@ use Rattle.parse_pool.specs.Ends.{OneIsSpent}
 use Rattle.parse_pool.specs.Phased.{HasRun}
 use Rattle.parse_pool.specs.Phases.{PhaseState}
 use Rattle.parse_pool.specs.Workers.{WorkerState}
-use Rattle.parse_pool.proofs.AtWork.{at_work, one_pass}
-use Rattle.parse_pool.proofs.MadeAt.{at_low}
+use Rattle.parse_pool.proofs.AtWork.{at_work}
 
 -- a region that has blocks is that of the part
 region_has : (s : SerialState) (region : ℕ) → 0 < blocks_of s region → region ≡ s.region
@@ -50,10 +51,10 @@ module _ (ph : PhaseState) (passes passes' : List Pass) (caches caches' : List C
 
   pub spent_there : (region : ℕ) → OneIsSpent run.worked region → HasSpent b region
   spent_there region o =
-      let low : o.at < length passes = omega (arith, at_low run.worked o.at o.worker o.there, run.work.count, run.begun.count) in
+      let low : o.at < length passes = omega (arith, at_below run.worked o.at o.worker o.there, run.work.count, run.begun.count) in
       let w = at_work ph passes passes' caches caches' messages end run long o.at low in
       let same : w.new ≡ o.worker = some-injective w.new o.worker (sym w.there ∙ o.there) in
-      let last : o.pass ≡ w.last = one_pass o.pass w.last (sym o.has ∙ ap (λ (x : WorkerState). x.pass) (sym same) ∙ run.left.pass o.at w.new w.last w.there w.last_there) in
+      let last : o.pass ≡ w.last = same_Some o.pass w.last (sym o.has ∙ ap (λ (x : WorkerState). x.pass) (sym same) ∙ run.left.pass o.at w.new w.last w.there w.last_there) in
       let part = o.spent.part in
       let has : HasPart w.last part = subst (λ (p : Pass). HasPart p part) last o.spent.has in
       let made : IsPassOf sh w.last = subst (λ (s : SharedState). IsPassOf s w.last) of w.turned.made in

@@ -1,5 +1,6 @@
 -- An arena whose owners are workers can be shared among workers.
 use Rattle.std.proofs.Common.{◌≡◌, ◌⊎◌, ◌+◌, ◌<◌, ◌≤◌, ℕ, zero, suc, not, List, [], ◌∷◌, ◌++◌, map, length, take, refl, sym, ap, ◌∙◌, inl, inr, ⊎_elim, arith, subst}
+use Rattle.arena_list.proofs.Words.Lists.{at_below}
 use Rattle.std.proofs.lemmas.Bool.{false≢true}
 use Rattle.std.proofs.lemmas.List.{length-append}
 use mathlib.Core.Option.{some, some-ne-none}
@@ -30,11 +31,6 @@ differ_behind [] ys one two apart = two
 differ_behind (x ∷ xs) ys one two apart =
     differ_cons x (xs ++ ys) (differ_behind xs ys (differ_tail x xs one) two (λ i j z a b. apart (suc i) j z a b))
     (λ i e. ⊎_elim (λ p. let same : 0 ≡ suc p.0 = one 0 (suc p.0) x refl p.1 in omega arith) (λ p. apart 0 p.0 x refl p.1) (in_either xs ys i x e))
-
-pub at_below : (xs : List ℕ) (i x : ℕ) → get_elem? xs i ≡ some x → i < length xs
-at_below [] i x e = absurd (some-ne-none x (sym e))
-at_below (y ∷ xs) zero x e = omega arith
-at_below (y ∷ xs) (suc i) x e = let low = at_below xs i x e in omega arith
 
 -- the owners, and the workers that own nothing yet, are at most 64
 pub few_together : (owners : Owners) (numbers : List ℕ) → Differ (map caller owners) → AreBelow 64 owners → AreCounted numbers → length numbers ≤ 64 → length owners + length (without owners numbers) ≤ 64

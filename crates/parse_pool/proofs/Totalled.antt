@@ -1,7 +1,8 @@
 -- How much an arena grows in a phase.
 use Rattle.std.proofs.Common.{inl, inr, List, Option, [], ap, arith, drop, false, length, map, not, refl, subst, suc, sym, zero, ℕ, ⊎_elim, ◌*◌, ◌+◌, ◌<◌, ◌∙◌, ◌∷◌, ◌≡◌, ◌≤◌, ◌⊎◌}
+use Rattle.arena_list.proofs.Words.Lists.{at_below}
 use Rattle.std.specs.Prelude.{IsSome, sum_by}
-use Rattle.std.proofs.lemmas.Bool.{cases_Bool, false≢true}
+use Rattle.std.proofs.lemmas.Bool.{cases_Bool, cases_lt, false≢true}
 use Rattle.std.proofs.lemmas.List.{length-drop, length-take}
 use Rattle.std.proofs.lemmas.List.Sums.{sum_by-cons}
 use mathlib.Core.Option.{some, some-injective}
@@ -32,12 +33,9 @@ use Rattle.parse_pool.specs.Starting.{AreBelow, AreCounted}
 use Rattle.parse_pool.proofs.AllMade.{payload_is}
 use Rattle.parse_pool.proofs.AtWork.{AtWork, at_work, caller_is, grown_of}
 use Rattle.parse_pool.proofs.Bounds.{all_dealt, dealt, in_dealt, sum_grows, sum_list, sum_some, sum_to}
-use Rattle.parse_pool.proofs.Exact.{split}
 use Rattle.parse_pool.proofs.Kept.{joined_as_before}
-use Rattle.parse_pool.proofs.MadeAt.{at_low}
 use Rattle.parse_pool.proofs.Picked.{New, Owned, Whose, own_number, picked}
 use Rattle.parse_pool.proofs.Sides.{of_pass, owners_after}
-use Rattle.parse_pool.proofs.Starting.{at_below}
 
 -- what a frame of a phase, counted from its first, may add
 abbrev added : PhaseState → ℕ → ℕ
@@ -86,7 +84,7 @@ module _ (ph : PhaseState) (passes passes' : List Pass) (caches caches' : List C
   not_before i j d e high at_d at_e same =
       let still = still_there j d at_d in
       let index = (one_entry j i still.0 e still.1 at_e (still.2 ∙ same)).0 in
-      omega (arith, high, index, at_low a.owners j d at_d)
+      omega (arith, high, index, at_below a.owners j d at_d)
 
   -- what became of the part of a worker
   pub record Turned (before after : SerialState) (k : ℕ) : Type 0 where
@@ -98,7 +96,7 @@ module _ (ph : PhaseState) (passes passes' : List Pass) (caches caches' : List C
   not_worker k none = ⊎_elim
       (λ low. absurd (false≢true (sym none ∙ at_has numbers k k (own_number a sh numbers passes first counted k (omega (arith, low, first.count))))))
       (λ high. high)
-      (split k (length passes))
+      (cases_lt k (length passes))
 
   -- an owner from before: it is a worker that took its turns, or has what it had
   pub owner_became : (i : ℕ) (d e : Entry SerialState) → get_elem? a.owners i ≡ some d → get_elem? b.owners i ≡ some e → Turned d.part e.part e.caller ⊎ ((e.part ≡ d.part) × (length passes ≤ e.caller))

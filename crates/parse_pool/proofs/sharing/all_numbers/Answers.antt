@@ -1,6 +1,6 @@
 use Rattle.std.proofs.Common.{length-set, refl, sym, ◌∙◌, ⊎_elim, arith}
+use Rattle.arena_list.proofs.Words.Lists.{at_below}
 use Rattle.ts_arena.proofs.Spots.{at_set}
-use Rattle.parse_pool.proofs.Starting.{at_below}
 use Rattle.parse_pool.proofs.sharing.all_numbers.Goals as goal
 
 pub loop-i-init : goal.loop-i-init
