@@ -1,6 +1,6 @@
 // Worked runs over frames of `pb.Node`: each row is data, and one loop runs them all. Frames that nest deeply follow.
 
-use crate::rows::end_of_run;
+use crate::runs::end_of_run;
 use crate::told::{Told, has_fault};
 use arena_run::{Fault, WireFault, WireKind};
 use std::alloc::{AllocError, Global};
@@ -48,7 +48,7 @@ const ROWS: [NodeRow; 5] = [
 #[test]
 fn node_rows_end_as_they_say(rt: HostRuntime) -> Result<(), Fail> {
     for (name, content, fault, written) in &ROWS {
-        let end = end_of_run(rt.alloc(), CAT, content, &[], 65536, &[])?;
+        let end = end_of_run(&rt, rt.alloc(), CAT, content, &[], 65536, &[])?;
         let is_told = has_fault(&end.fault, *fault);
         assert!(rt; is_told, "{name}");
         assert_eq!(rt; end.written.as_slice(), *written, "{name}");
@@ -91,11 +91,11 @@ fn nested(alloc: Global, levels: u32) -> Result<Vec<u8>, AllocError> {
 fn a_hundred_levels_are_read_and_one_more_is_too_deep(rt: HostRuntime) -> Result<(), Fail> {
     let alloc = rt.alloc();
     let frame = nested(alloc, 100)?;
-    let end = end_of_run(alloc, CAT, &frame, &[], 65536, &[])?;
+    let end = end_of_run(&rt, alloc, CAT, &frame, &[], 65536, &[])?;
     assert_eq!(rt; end.status, 0);
     assert_eq!(rt; end.written.as_slice(), frame.as_slice());
     let frame = nested(alloc, 101)?;
-    let end = end_of_run(alloc, CAT, &frame, &[], 65536, &[])?;
+    let end = end_of_run(&rt, alloc, CAT, &frame, &[], 65536, &[])?;
     let deep = matches!(
         &end.fault,
         Some(Fault::BadFrame {

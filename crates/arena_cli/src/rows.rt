@@ -1,91 +1,12 @@
 // Worked runs over a file, "f", in memory: each row is data, and one loop runs them all. Files that are long, calls that
 // fail and a file of many frames follow.
-ghost use Rattle.std.specs.Prelude.{◌≤◌};
-
+use crate::runs::end_of_run;
 use crate::told::{Told, has_fault};
-use arena_block::Policy;
-use arena_mem::{MemoryFiles, MemorySink, NamedBytes};
-use arena_run::{Fault, InputKind, WireFault, WireKind, run};
-use serial_arena::SerialArena;
+use arena_run::{InputKind, WireFault, WireKind};
 use std::alloc::{AllocError, Global};
 use std::process::Abort;
 use std::test::Fail;
-
-// How a run ended, what it left, and what it told.
-#[derive(Drop)]
-pub struct End {
-    pub status: u8,
-    pub fault: Option<Fault>,
-    pub written: Vec<u8>,
-    pub told: Vec<u8>,
-    pub registers: usize,
-    pub space_used: u64,
-    pub kept: u64,
-}
-
-// What fails in a run: the calls of the files and of the two sinks with these numbers.
-#[derive(Drop)]
-pub struct Failing<'a> {
-    pub reads: &'a [u64],
-    pub writes: &'a [u64],
-    pub tells: &'a [u64],
-}
-
-// Runs these words over the files of these names and contents. The sinks take so many bytes in a call.
-pub fn end_over(
-    alloc: Global,
-    words: &[&str],
-    files: &[(&str, &[u8])],
-    failing: &Failing<'_>,
-    per_call: u32,
-) -> Result<End, AllocError>
-    requires { 1 ≤ per_call }
-{
-    let mut strings = Vec::new(alloc);
-    for word in words {
-        strings.push(String::from_str(alloc, word)?)?;
-    }
-    let mut named = Vec::new(alloc);
-    for (name, content) in files {
-        named.push(NamedBytes {
-            name: name.as_bytes().to_vec(alloc)?,
-            content: content.to_vec(alloc)?,
-        })?;
-    }
-    let mut files = MemoryFiles::new(named, failing.reads.to_vec(alloc)?);
-    let mut out = MemorySink::new(alloc, per_call, failing.writes.to_vec(alloc)?);
-    let mut err = MemorySink::new(alloc, per_call, failing.tells.to_vec(alloc)?);
-    let arena = SerialArena::new(alloc, Policy::profile(), 0, 0, 0);
-    let outcome = run(alloc, &strings, &mut files, &mut out, &mut err, arena);
-    Ok(End {
-        status: outcome.status,
-        fault: outcome.fault,
-        written: out.taken().to_vec(alloc)?,
-        told: err.taken().to_vec(alloc)?,
-        registers: outcome.registers.len(),
-        space_used: outcome.arena.space_used(),
-        kept: outcome.arena.registered(),
-    })
-}
-
-// Runs these words over one file, "f". The calls of the file and of the sink that are listed fail.
-pub fn end_of_run(
-    alloc: Global,
-    words: &[&str],
-    content: &[u8],
-    failing_reads: &[u64],
-    per_call: u32,
-    failing_writes: &[u64],
-) -> Result<End, AllocError>
-    requires { 1 ≤ per_call }
-{
-    let failing = Failing {
-        reads: failing_reads,
-        writes: failing_writes,
-        tells: &[],
-    };
-    end_over(alloc, words, &[("f", content)], &failing, per_call)
-}
+use std::thread::Threads;
 
 const CAT: &[&str] = &["cat", "builtin", "pb.Tick", "f", "1"];
 
@@ -105,7 +26,7 @@ type Row = (
     u64,
 );
 
-const ROWS: [Row; 49] = [
+const ROWS: [Row; 50] = [
     (
         "a set field",
         CAT,
@@ -655,9 +576,26 @@ const ROWS: [Row; 49] = [
     (
         "64 workers",
         &["cat", "builtin", "pb.Tick", "f", "64"],
-        b"\x00",
-        9,
-        Some(Told::NotBuilt),
+        b"\x03\x08\x96\x01",
+        0,
+        None,
+        b"\x03\x08\x96\x01",
+        1,
+        32,
+        0,
+    ),
+    (
+        "the least bad frame of two, with 4 workers",
+        &["cat", "builtin", "pb.Tick", "f", "4"],
+        b"\x02\x08\x01\x02\x08\x80\x02\x08\x01\x02\x08\x80\x02\x08\x01",
+        4,
+        Some(Told::BadFrame {
+            index: 1,
+            fault: WireFault {
+                kind: WireKind::Cut,
+                byte: 1,
+            },
+        }),
         NO_FRAMES,
         0,
         0,
@@ -688,9 +626,9 @@ const ROWS: [Row; 49] = [
 ];
 
 // Each row ends as it says.
-fn check_rows(rt: &impl Abort, alloc: Global, rows: &[Row]) -> Result<(), Fail> {
+fn check_rows<R: Abort + Threads + Sync>(rt: &R, alloc: Global, rows: &[Row]) -> Result<(), Fail> {
     for (name, words, content, status, fault, written, registers, space_used, kept) in rows {
-        let end = end_of_run(alloc, words, content, &[], 65536, &[])?;
+        let end = end_of_run(rt, alloc, words, content, &[], 65536, &[])?;
         let is_told = has_fault(&end.fault, *fault);
         assert!(rt; is_told, "{name}");
         assert_eq!(rt; &end.status, status, "{name}");
@@ -698,7 +636,11 @@ fn check_rows(rt: &impl Abort, alloc: Global, rows: &[Row]) -> Result<(), Fail> 
         assert_eq!(rt; &end.registers, registers, "{name}");
         // Of a payload with a fault a part may have been placed.
         if *status != 4 {
-            assert_eq!(rt; (end.space_used, end.kept), (*space_used, *kept), "{name}");
+            assert_eq!(rt;
+                (end.space_used, end.kept),
+                (u128::from(*space_used), u128::from(*kept)),
+                "{name}"
+            );
         }
     }
     Ok(())
@@ -710,18 +652,18 @@ fn rows_end_as_they_say(rt: HostRuntime) -> Result<(), Fail> {
 }
 
 // A run over a long file ends so, with that many messages of 32 bytes.
-fn check_long(
-    rt: &impl Abort,
+fn check_long<R: Abort + Threads + Sync>(
+    rt: &R,
     alloc: Global,
     content: &[u8],
     fault: Option<Told>,
     messages: u32,
 ) -> Result<(), Fail> {
-    let end = end_of_run(alloc, CAT, content, &[], 65536, &[])?;
+    let end = end_of_run(rt, alloc, CAT, content, &[], 65536, &[])?;
     let is_told = has_fault(&end.fault, fault);
     assert!(rt; is_told);
     assert_eq!(rt; end.registers, messages as usize);
-    assert_eq!(rt; end.space_used, 32 * u64::from(messages));
+    assert_eq!(rt; end.space_used, 32 * u128::from(messages));
     if messages > 0 {
         assert_eq!(rt; end.written.as_slice(), content);
     }
@@ -764,8 +706,10 @@ fn a_run_with_ample_memory_ends_well(rt: HostRuntime) -> Result<(), Fail> {
 #[test]
 fn each_call_may_fail(rt: HostRuntime) -> Result<(), Fail> {
     let content = b"\x02\x08\x01\x03\x08\x96\x01\x00".as_slice();
+    // How many texts lie whole where 0, 3, 6 and all bytes were taken.
+    let whole = [0u32, 1, 1, 3];
     for call in 0..4u64 {
-        let end = end_of_run(rt.alloc(), CAT, content, &[call], 3, &[])?;
+        let end = end_of_run(&rt, rt.alloc(), CAT, content, &[call], 3, &[])?;
         let (status, written) = if call < 3 {
             (6, NO_FRAMES)
         } else {
@@ -773,7 +717,7 @@ fn each_call_may_fail(rt: HostRuntime) -> Result<(), Fail> {
         };
         assert_eq!(rt; end.status, status, "at {call}");
         assert_eq!(rt; end.written.as_slice(), written, "at {call}");
-        let end = end_of_run(rt.alloc(), CAT, content, &[], 3, &[call])?;
+        let end = end_of_run(&rt, rt.alloc(), CAT, content, &[], 3, &[call])?;
         assert_eq!(rt; end.status, if call < 3 { 7 } else { 0 }, "at {call}");
         assert_eq!(rt;
             end.written.as_slice(),
@@ -781,6 +725,7 @@ fn each_call_may_fail(rt: HostRuntime) -> Result<(), Fail> {
             "at {call}"
         );
         assert_eq!(rt; (end.registers, end.space_used), (3, 96), "at {call}");
+        assert_eq!(rt; end.lines, whole[call as usize], "at {call}");
     }
     Ok(())
 }

@@ -1,11 +1,12 @@
 // Worked runs over a descriptor set, "set", and a frames file, "f": each row is data, and one loop runs them all. The line that
 // is told is the fault's. Runs over a set of two files follow, and runs whose second sink fails.
 
-use crate::rows::{Failing, end_over};
+use crate::runs::{Failing, NO_FAILURE, end_over};
 use arena_run::{Fault, fault_text};
 use std::alloc::Global;
 use std::process::Abort;
 use std::test::Fail;
+use std::thread::Threads;
 
 // The set of one file with a message, whose fields are a number, an optional text and a list of messages.
 const ONE_FILE: &[u8] =
@@ -19,15 +20,9 @@ const ORDER: &[u8] =
 const ORDER_FRAME: &[u8] =
     b"\x20\x0a\x02A1\x12\x11\x0a\x02s1\x10\x03\x18\x02\x21\x00\x00\x00\x00\x00\x00\xf8\x3f\x18\x09\x22\x05\x0a\x01k\x10\x07";
 
-const NO_FAILURE: Failing<'static> = Failing {
-    reads: &[],
-    writes: &[],
-    tells: &[],
-};
-
 const CAT: &[&str] = &["cat", "set", "p.M", "f", "1"];
 
-const ORDERS: &[&str] = &["cat", "set", "shop.Order", "f", "1"];
+const ORDERS: &[&str] = &["cat", "set", "shop.Order", "f", "4"];
 
 // The name of a row, the words, the set and the frames file, the status, the bytes that are written and the line that is told.
 type SetRow = (
@@ -321,8 +316,8 @@ const ROWS: [SetRow; 33] = [
         "usage: cat SET TYPE FRAMES WORKERS, run SET TYPE FRAMES SCRIPT WORKERS or gen SEED COUNT WORKERS\n",
     ),
     (
-        "two workers",
-        &["cat", "none", "p.M", "f", "2"],
+        "a script over a set that isn't there",
+        &["run", "none", "p.M", "f", "s", "2"],
         ONE_FILE,
         b"\x00",
         9,
@@ -341,10 +336,14 @@ const ROWS: [SetRow; 33] = [
 ];
 
 // Each row ends as it says. A loop over the table itself would have the whole table in each goal.
-fn check_rows(rt: &impl Abort, alloc: Global, rows: &[SetRow]) -> Result<(), Fail> {
+fn check_rows<R: Abort + Threads + Sync>(
+    rt: &R,
+    alloc: Global,
+    rows: &[SetRow],
+) -> Result<(), Fail> {
     for (name, words, set, frames, status, written, told) in rows {
         let files = [("set", *set), ("f", *frames)];
-        let end = end_over(alloc, words, &files, &NO_FAILURE, 7)?;
+        let end = end_over(rt, alloc, words, &files, &NO_FAILURE, 7)?;
         assert_eq!(rt; &end.status, status, "{name}");
         assert_eq!(rt; end.written.as_slice(), *written, "{name}");
         assert_eq!(rt; end.told.as_slice(), told.as_bytes(), "{name}");
@@ -370,14 +369,19 @@ fn set_rows_end_as_they_say(rt: HostRuntime) -> Result<(), Fail> {
 }
 
 // So many frames of a type of the set are written as they were.
-fn check_frames(rt: &impl Abort, alloc: Global, set: &[u8], frame: &[u8]) -> Result<(), Fail> {
+fn check_frames<R: Abort + Threads + Sync>(
+    rt: &R,
+    alloc: Global,
+    set: &[u8],
+    frame: &[u8],
+) -> Result<(), Fail> {
     let mut frames = Vec::new(alloc);
     for _ in 0..200 {
         frames.extend_from_slice(frame)?;
     }
     let set = set.to_vec(alloc)?;
     let files = [("set", set.as_slice()), ("f", frames.as_slice())];
-    let end = end_over(alloc, ORDERS, &files, &NO_FAILURE, 65536)?;
+    let end = end_over(rt, alloc, ORDERS, &files, &NO_FAILURE, 65536)?;
     assert_eq!(rt; end.status, 0);
     assert_eq!(rt; end.registers, 200);
     assert_eq!(rt; end.written.as_slice(), frames.as_slice());
@@ -394,7 +398,7 @@ fn a_set_above_its_limit_is_too_long(rt: HostRuntime) -> Result<(), Fail> {
     let alloc = rt.alloc();
     let set = vec![in alloc; 0u8; 4194305]?;
     let files = [("set", set.as_slice()), ("f", b"\x00".as_slice())];
-    let end = end_over(alloc, CAT, &files, &NO_FAILURE, 65536)?;
+    let end = end_over(&rt, alloc, CAT, &files, &NO_FAILURE, 65536)?;
     assert_eq!(rt; end.status, 8);
     assert_eq!(rt;
         end.told.as_slice(),
@@ -405,8 +409,8 @@ fn a_set_above_its_limit_is_too_long(rt: HostRuntime) -> Result<(), Fail> {
 
 // A run whose second sink fails at the call with this number ends as it does where none fails, and a front of its line is
 // told.
-fn check_telling(
-    rt: &impl Abort,
+fn check_telling<R: Abort + Threads + Sync>(
+    rt: &R,
     alloc: Global,
     set: &[u8],
     frames: &[u8],
@@ -420,7 +424,7 @@ fn check_telling(
         tells: &tells,
     };
     let files = [("set", set), ("f", frames)];
-    let end = end_over(alloc, CAT, &files, &failing, 5)?;
+    let end = end_over(rt, alloc, CAT, &files, &failing, 5)?;
     assert_eq!(rt;
         end.status,
         if line.is_empty() { 0 } else { 4 },
@@ -447,7 +451,12 @@ fn a_sink_of_texts_may_fail(rt: HostRuntime) -> Result<(), Fail> {
 }
 
 // A run whose files fail at the call with this number: six calls pick and read them.
-fn check_reading(rt: &impl Abort, alloc: Global, set: &[u8], call: u64) -> Result<(), Fail> {
+fn check_reading<R: Abort + Threads + Sync>(
+    rt: &R,
+    alloc: Global,
+    set: &[u8],
+    call: u64,
+) -> Result<(), Fail> {
     let reads = [call];
     let failing = Failing {
         reads: &reads,
@@ -455,7 +464,7 @@ fn check_reading(rt: &impl Abort, alloc: Global, set: &[u8], call: u64) -> Resul
         tells: &[],
     };
     let files = [("set", set), ("f", b"\x00".as_slice())];
-    let end = end_over(alloc, CAT, &files, &failing, 5)?;
+    let end = end_over(rt, alloc, CAT, &files, &failing, 5)?;
     assert_eq!(rt; end.status, if call < 6 { 6 } else { 0 }, "at {call}");
     Ok(())
 }

@@ -2,6 +2,7 @@
 ghost use Rattle.std.specs.Prelude.{◌≤◌};
 
 use super::*;
+use crate::runs::fresh_arenas;
 use arena_mem::{Failed, Files, Sink};
 use std::alloc::{AllocError, Global};
 use std::fs;
@@ -159,8 +160,12 @@ fn a_file_goes_through_the_program(rt: HostRuntime) -> Result<(), Fail> {
             failing_call,
         };
         let mut err = WriterSink::new(&mut error_writer);
-        let arena = SerialArena::new(alloc, Policy::profile(), 0, 1, 0);
-        let outcome = run(alloc, &words, &mut files, &mut out, &mut err, arena);
+        let (mut ids, pair) = fresh_arenas(alloc)?;
+        let mut watch = SilentWatch;
+        let outcome = run(
+            &rt, alloc, &words, &mut files, &mut out, &mut err, &OpenGate, &mut ids, pair,
+            &mut watch,
+        );
         assert_eq!(rt; outcome.status, status, "{name}, {failing_call}");
         assert_eq!(rt; writer.taken.as_slice(), taken, "{name}, {failing_call}");
         if failing_call == 0 {

@@ -1,47 +1,29 @@
 -- How the causes of a run follow from those of its parts.
-use Rattle.std.proofs.Common.{◌≡◌, ◌⊎◌, ◌+◌, ◌*◌, ◌^◌, ◌<◌, ◌≤◌, ℕ, Bool, true, false, zero, suc, List, [], ◌∷◌, length, Option, None, Some, Result, Ok, Err, refl, sym, ap, ◌∙◌, subst, inl, inr, ⊎_elim, arith}
-use Rattle.std.specs.Prelude.{sum_by, IfOk, IfErr, IfSome, IsSomeAnd, IsErrAnd}
+use Rattle.std.proofs.Common.{◌≡◌, ◌⊎◌, ◌<◌, ◌≤◌, ℕ, Bool, true, false, zero, suc, List, [], ◌∷◌, length, Option, None, Some, Result, Ok, Err, refl, sym, ap, ◌∙◌, subst, inl, inr, ⊎_elim, arith}
+use Rattle.std.specs.Prelude.{IfSome, IsErrAnd}
 use Rattle.std.specs.Option.{option_map}
 use Rattle.std.specs.List.{slice_get}
 use Rattle.std.proofs.lemmas.Option.{none-some}
-use Rattle.dyn_message.specs.declared.msg_ref.MsgRef.{MsgRef}
 use Rattle.std.proofs.lemmas.Bool.{cases_lt}
-use Rattle.std.proofs.lemmas.Result.{IfOk-weaker}
-use Rattle.std.specs.Io.KnownBytes.{Appends}
-use Rattle.std.specs.FinMap as map
-use Rattle.arena_mem.specs.Grows.{Grows}
-use Rattle.arena_mem.specs.Outside.{NamedFiles, content_of, IsThere, TookPart}
-use Rattle.arena_mem.specs.Places.{Places, Buffers}
-use Rattle.arena_mem.proofs.Growth.{growth_widens, same_grows}
+use Rattle.arena_mem.specs.Outside.{NamedFiles, content_of, IsThere}
 use Rattle.pb_schema.specs.declared.schema.MessageType.{MessageType}
 use Rattle.pb_schema.specs.declared.schema.Schema.{Schema}
-use Rattle.pb_schema.specs.Frames.{frames_of}
-use Rattle.pb_schema.specs.Lawful.{Lawful}
-use Rattle.pb_schema.specs.Payloads.{trees_of, bad_payload, framed_texts}
-use Rattle.pb_schema.specs.Tree.{Tree}
 use Rattle.arena_run.specs.declared.fault.Fault.{Fault}
 use Rattle.arena_run.specs.declared.fault.Fault.TheVariants.{NoMemory, Usage, Schema as SetFault, NoType, FrameCut, BadFrame, ReadFault, WriteFault, TooLong, NotBuilt}
 use Rattle.arena_run.specs.declared.fault.InputKind.TheVariants.{SetBytes, FrameBytes, FrameCount}
-use Rattle.arena_run.specs.Causes.{EndsByWords, ReadsFile, ReadsSet, EndsByFile, AreFew, most_made, GrowsByFile}
-use Rattle.arena_run.specs.Contents.{OfContent, HasTrees, OfTrees}
-use Rattle.arena_run.specs.Ends.{first_stage, last_stage, at_words, at_set_reading, at_set, at_types, at_payloads, at_writing, IsPastWords, IsSetRead, EndsWell, EndsBy, EndsBySet, Gives, IsOfSet, IsOfFile, IsOfPayloads, result_fault}
-use Rattle.arena_run.specs.Faults.{bad_frame, payloads_fault, first_fault, trees_in}
-use Rattle.arena_run.specs.Frames.{EndsByFrames, GrowsByFrames, StandsRead}
-use Rattle.arena_run.specs.Stands.{StandShort, StandWritten}
+use Rattle.arena_run.specs.Causes.{EndsByWords, ReadsFile, ReadsSet, EndsByFile}
+use Rattle.arena_run.specs.Contents.{OfContent}
+use Rattle.arena_run.specs.Ends.{first_stage, last_stage, at_words, at_set_reading, at_set, at_types, at_writing, IsPastWords, IsSetRead, EndsWell, EndsBy, EndsBySet, Gives, IsOfSet, IsOfFile, result_fault}
+use Rattle.arena_run.specs.Faults.{first_fault}
+use Rattle.arena_run.specs.Frames.{EndsByFrames}
 use Rattle.arena_run.specs.Sets.{IsGiven, is_built_in, set_given}
 use Rattle.arena_run.specs.Words.{IsCat, IsTypeOf, IsTyped, HasNoType}
-use Rattle.arena_run.proofs.AllStand.{apart_one}
-use Rattle.arena_run.proofs.Firsts.{parsed_first, has_trees}
 use Rattle.arena_run.proofs.WordForms.{same_set, same_type, same_frames}
 
 -- what holds of the end holds of a result that has this fault
 pub at_err : {A : Type 0} (r : Result A Fault) (fault : Fault) (P : Option Fault → Type 0) → IsErrAnd r (λ found. found ≡ fault) → P (Some fault) → P (result_fault r)
 at_err (Ok x) fault P is p = absurd is
 at_err (Err found) fault P is p = subst (λ f. P (Some f)) (sym is) p
-
-some_weaker : {A : Type 0} (o : Option A) (P Q : A → Type 0) → ((x : A) → P x → Q x) → IsSomeAnd o P → IsSomeAnd o Q
-some_weaker None P Q weaker h = absurd h
-some_weaker (Some x) P Q weaker h = weaker x h
 
 -- TYPES
 
@@ -96,13 +78,6 @@ of_named words files types set type_name name type_no P is_cat given is_type h =
 pub of_none : (words : List (List ℕ)) (files : Option NamedFiles) (P : Schema → ℕ → List ℕ → Type 0) → ((schema : Schema) (type_no : ℕ) (content : List ℕ) → P schema type_no content) → OfContent words files P
 of_none words files P all = λ set type_name frames content schema type_no is_cat told is_type found. all schema type_no content
 
-pub of_trees : (words : List (List ℕ)) (files : Option NamedFiles) (types : Schema) (P Q : Schema → ℕ → List Tree → Type 0) → IsGiven words files types → ((type_no : ℕ) (trees : List Tree) → P types type_no trees → Q types type_no trees) → OfTrees words files P → OfTrees words files Q
-of_trees words files types P Q given weaker h = λ set type_name frames content schema type_no is_cat told is_type found.
-    let has = h set type_name frames content schema type_no is_cat told is_type found in
-    let same : types ≡ schema = one_schema words files types schema set type_name frames given is_cat told in
-    let law : (trees : List Tree) → P schema type_no trees → Q schema type_no trees = subst (λ s. (trees : List Tree) → P s type_no trees → Q s type_no trees) same (weaker type_no) in
-    record { sound = has.sound; trees = some_weaker (trees_in schema type_no content) (P schema type_no) (Q schema type_no) law has.trees }
-
 -- a set that gives a schema with the type, and a file without a fault, where nothing failed
 pub ends_well : (schema : Schema) (type_name : List ℕ) (type_no : ℕ) (first end : Option Fault) → IsPastWords end → EndsBySet (Ok schema) type_name end → IsTypeOf schema type_name type_no → EndsBy first end → first ≡ None → (end ≡ Some ReadFault → ⊥) → (end ≡ Some WriteFault → ⊥) → EndsWell end
 ends_well schema type_name type_no first None past set typed by sound read written = inl refl
@@ -123,68 +98,10 @@ ends_well schema type_name type_no first (Some (TooLong FrameCount limit)) past 
 ends_well schema type_name type_no first (Some (FrameCut index)) past set typed by sound read written = absurd (let is = by.fault (omega arith) (omega arith) in cc)
 ends_well schema type_name type_no first (Some (BadFrame index fault)) past set typed by sound read written = absurd (let is = by.fault (omega arith) (omega arith) in cc)
 
--- THE TREES
-
-some_there : {A : Type 0} (o : Option A) (P : A → Type 0) → IsSomeAnd o P → (x : A) × P x
-some_there None P h = absurd h
-some_there (Some x) P h = (x, h)
-
--- messages that stand for what a file holds stand for that of the file that the words name
-pub trees_named : (words : List (List ℕ)) (files now : Option NamedFiles) (types : Schema) (set type_name name : List ℕ) (type_no : ℕ) (places : Places) (buffers : Buffers) (messages : List MsgRef) → IsCat words set type_name name → IsGiven words files types → IsTypeOf types type_name type_no → now ≡ files
-    → StandsRead types places buffers (content_of now name) type_no messages → OfTrees words files (λ schema n trees. StandShort schema places buffers n messages trees)
-trees_named words files now types set type_name name type_no places buffers messages is_cat given is_type same st =
-    of_named words files types set type_name name type_no (λ schema n content. HasTrees schema n content (λ trees. StandShort schema places buffers n messages trees)) is_cat given is_type
-    (subst (λ c. IfSome (content_of c name) (λ content. HasTrees types type_no content (λ trees. StandShort types places buffers type_no messages trees))) same st.told)
-
--- the messages of the payloads of a file stand for its trees
-pub stands_read : (schema : Schema) (type_no : ℕ) (places : Places) (buffers : Buffers) (found : Option (List ℕ)) (messages : List MsgRef) (payloads : List (List ℕ)) → length payloads ≤ 2 ^ 20
-    → IfSome found (λ content. (length content ≤ 2 ^ 24) × (frames_of content ≡ Ok payloads)) → bad_payload schema type_no payloads ≡ None
-    → IsSomeAnd (trees_of schema type_no payloads) (StandShort schema places buffers type_no messages) → StandsRead schema places buffers found type_no messages
-stands_read schema type_no places buffers found messages payloads few whole sound stand =
-    let one = some_there (trees_of schema type_no payloads) (StandShort schema places buffers type_no messages) stand in
-    record { trees = one.0; stand = one.1; told = told found whole }
-  where
-    told : (o : Option (List ℕ)) → IfSome o (λ content. (length content ≤ 2 ^ 24) × (frames_of content ≡ Ok payloads)) → IfSome o (λ content. HasTrees schema type_no content (StandShort schema places buffers type_no messages))
-    told None h = tt
-    told (Some content) h = has_trees schema type_no content payloads (StandShort schema places buffers type_no messages) (record { few_bytes = h.0; frames = h.1 }) few (ap (option_map bad_frame) sound) stand
-
--- the same where they were parsed
-pub stands_parsed : {A : Type 0} (parsed : Result A Fault) (items : A → List MsgRef) (schema : Schema) (type_no : ℕ) (places : Places) (buffers : Buffers) (found : Option (List ℕ)) (payloads : List (List ℕ)) → length payloads ≤ 2 ^ 20
-    → IfSome found (λ content. (length content ≤ 2 ^ 24) × (frames_of content ≡ Ok payloads)) → IfOk parsed (λ _. bad_payload schema type_no payloads ≡ None)
-    → IfOk parsed (λ x. IsSomeAnd (trees_of schema type_no payloads) (StandShort schema places buffers type_no (items x))) → IfOk parsed (λ x. StandsRead schema places buffers found type_no (items x))
-stands_parsed (Ok x) items schema type_no places buffers found payloads few whole sound stand = stands_read schema type_no places buffers found (items x) payloads few whole sound stand
-stands_parsed (Err fault) items schema type_no places buffers found payloads few whole sound stand = tt
-
 -- the type of the named one is that of each that the words name
 pub typed_as : (words : List (List ℕ)) (schema : Schema) (set type_name name : List ℕ) (type_no : ℕ) → IsCat words set type_name name → IsTypeOf schema type_name type_no → IsTyped words schema type_no
 typed_as words schema set type_name name type_no is_cat is_type = λ other other_type frames other_cat.
     subst (λ t. IsTypeOf schema t type_no) (same_type words set other type_name other_type name frames is_cat other_cat) is_type
-
--- messages that were read, at the type that the words name
-pub stand_typed : (words : List (List ℕ)) (schema : Schema) (set type_name name : List ℕ) (type_no : ℕ) (places : Places) (buffers : Buffers) (found : Option (List ℕ)) (messages : List MsgRef) → IsCat words set type_name name → IsTypeOf schema type_name type_no → StandsRead schema places buffers found type_no messages
-    → (n : ℕ) × (trees : List Tree) × IsTyped words schema n × StandShort schema places buffers n messages trees
-stand_typed words schema set type_name name type_no places buffers found messages is_cat is_type st = (type_no, st.trees, typed_as words schema set type_name name type_no is_cat is_type, st.stand)
-
--- what is written for trees, of messages that were lent
-pub texts_at : (schema : Schema) (places : Places) (buffers : Buffers) (lent messages : List MsgRef) → lent ≡ messages → (Took : List ℕ → Type 0)
-    → ((type_no : ℕ) (trees : List Tree) → StandShort schema places buffers type_no lent trees → Took (framed_texts schema type_no trees))
-    → (type_no : ℕ) (trees : List Tree) → StandShort schema places buffers type_no messages trees → Took (framed_texts schema type_no trees)
-texts_at schema places buffers lent messages same Took wrote type_no trees all = wrote type_no trees (subst (λ xs. StandShort schema places buffers type_no xs trees) (sym same) all)
-
--- messages that can be written
-pub stand_at : (schema : Schema) (places : Places) (buffers : Buffers) (lent messages : List MsgRef) → lent ≡ messages → (words : List (List ℕ)) → (type_no : ℕ) × (trees : List Tree) × IsTyped words schema type_no × StandShort schema places buffers type_no messages trees
-    → (type_no : ℕ) × (trees : List Tree) × StandShort schema places buffers type_no lent trees
-stand_at schema places buffers lent messages same words st = (st.0, st.1, subst (λ xs. StandShort schema places buffers st.0 xs st.1) (sym same) st.3)
-
-pub written_well : (words : List (List ℕ)) (files : Option NamedFiles) (schema : Schema) (places : Places) (buffers : Buffers) (messages : List MsgRef) (was now : Option (List ℕ)) → Lawful schema → IsGiven words files schema
-    → (type_no : ℕ) × (trees : List Tree) × IsTyped words schema type_no × StandShort schema places buffers type_no messages trees
-    → ((type_no : ℕ) (trees : List Tree) → StandShort schema places buffers type_no messages trees → Appends was now (framed_texts schema type_no trees)) → StandWritten words files places buffers messages None was now
-written_well words files schema places buffers messages was now lawful given st wrote = record { schema = schema; lawful = lawful; given = given; type_no = st.0; typed = st.2; trees = st.1; stand = st.3.apart; one = λ no others. apart_one schema places buffers st.0 no messages st.1 others st.3.apart; all = λ _. wrote st.0 st.1 st.3; part = λ is. absurd (cc) }
-
-pub written_part : (words : List (List ℕ)) (files : Option NamedFiles) (schema : Schema) (places : Places) (buffers : Buffers) (messages : List MsgRef) (was now : Option (List ℕ)) → Lawful schema → IsGiven words files schema
-    → (type_no : ℕ) × (trees : List Tree) × IsTyped words schema type_no × StandShort schema places buffers type_no messages trees
-    → ((type_no : ℕ) (trees : List Tree) → StandShort schema places buffers type_no messages trees → TookPart was now (framed_texts schema type_no trees)) → StandWritten words files places buffers messages (Some WriteFault) was now
-written_part words files schema places buffers messages was now lawful given st took = record { schema = schema; lawful = lawful; given = given; type_no = st.0; typed = st.2; trees = st.1; stand = st.3.apart; one = λ no others. apart_one schema places buffers st.0 no messages st.1 others st.3.apart; all = λ is. absurd (cc); part = λ _. took st.0 st.1 st.3 }
 
 -- THE FRAMES FILE
 
@@ -252,7 +169,7 @@ either_set set P built other = by (is_built_in set) built other
 
 module _ {S : Type 0} (contents_of : S → Option NamedFiles) (faults_of : S → ℕ) (blamed_of : S → Option (List ℕ)) where
   -- what was read stays so on later ends
-  reads_on : (name : List ℕ) (old new : S) (end : Option Fault) → ReadsFile contents_of faults_of blamed_of name old new None → (end ≡ Some ReadFault → ⊥) → ReadsFile contents_of faults_of blamed_of name old new end
+  pub reads_on : (name : List ℕ) (old new : S) (end : Option Fault) → ReadsFile contents_of faults_of blamed_of name old new None → (end ≡ Some ReadFault → ⊥) → ReadsFile contents_of faults_of blamed_of name old new end
   reads_on name old new end reads other = record {
     contents = reads.contents;
     counts = reads.counts;
@@ -275,7 +192,6 @@ module _ {S : Type 0} (contents_of : S → Option NamedFiles) (faults_of : S →
     reads = reads_none name now;
     first = unread (content_of (contents_of now) name);
     past = omega arith;
-    before = λ fault is. omega arith;
   }
     where
       unread : (found : Option (List ℕ)) → IfSome found (λ content. EndsBy (first_fault schema type_no content) (Some NoMemory))
@@ -289,40 +205,11 @@ module _ {S : Type 0} (contents_of : S → Option NamedFiles) (faults_of : S →
     reads = reads;
     first = at_type (content_of (contents_of old) name) first;
     past = kind.past;
-    before = λ _ _. file_before fault kind;
   }
     where
       at_type : (found : Option (List ℕ)) → IfSome found (λ content. (s : Schema) (n : ℕ) → EndsBy (first_fault s n content) (Some fault)) → IfSome found (λ content. EndsBy (first_fault schema type_no content) (Some fault))
       at_type None h = tt
       at_type (Some content) h = h schema type_no
-
-  -- its payloads were parsed
-  pub frames_parsed : {A : Type 0} (schema : Schema) (type_no : ℕ) (name : List ℕ) (old new : S) (parsed : Result A Fault) (payloads : List (List ℕ)) → ReadsFile contents_of faults_of blamed_of name old new None → length payloads ≤ 2 ^ 20
-      → IfSome (content_of (contents_of old) name) (λ content. (length content ≤ 2 ^ 24) × (frames_of content ≡ Ok payloads)) → IfErr parsed IsOfPayloads → IfErr parsed (λ fault. (fault ≡ NoMemory) ⊎ (option_map bad_frame (bad_payload schema type_no payloads) ≡ Some fault))
-      → IfOk parsed (λ _. bad_payload schema type_no payloads ≡ None) → EndsByFrames contents_of faults_of blamed_of schema type_no name old new (result_fault parsed)
-  frames_parsed {A} schema type_no name old new parsed payloads reads few whole kind fault sound = record {
-    reads = reads_on name old new (result_fault parsed) reads (other parsed kind);
-    first = first (content_of (contents_of old) name) whole;
-    past = past parsed kind;
-    before = before parsed kind;
-  }
-    where
-      past : (r : Result A Fault) → IfErr r IsOfPayloads → at_types < last_stage (result_fault r)
-      past (Ok x) kind = omega arith
-      past (Err fault) kind = omega (arith, kind)
-
-      before : (r : Result A Fault) → IfErr r IsOfPayloads → (f : Fault) → result_fault r ≡ Some f → last_stage (result_fault r) < at_writing
-      before (Ok x) kind f is = absurd (cc)
-      before (Err fault) kind f is = omega (arith, kind)
-
-      other : (r : Result A Fault) → IfErr r IsOfPayloads → result_fault r ≡ Some ReadFault → ⊥
-      other (Ok x) kind is = cc
-      other (Err fault) kind is = let same : fault ≡ ReadFault = cc in let told : IsOfPayloads ReadFault = subst IsOfPayloads same kind in omega (arith, told)
-
-      first : (found : Option (List ℕ)) → IfSome found (λ content. (length content ≤ 2 ^ 24) × (frames_of content ≡ Ok payloads)) → IfSome found (λ content. EndsBy (first_fault schema type_no content) (result_fault parsed))
-      first None h = tt
-      first (Some content) h = parsed_first schema type_no parsed content payloads (record { few_bytes = h.0; frames = h.1 }) few kind fault
-          (IfOk-weaker parsed (λ _. bad_payload schema type_no payloads ≡ None) (λ _. payloads_fault schema type_no payloads ≡ None) (λ x none. ap (option_map bad_frame) none) sound)
 
   -- THE RUN
 
@@ -431,89 +318,3 @@ module _ {S : Type 0} (contents_of : S → Option NamedFiles) (faults_of : S →
         first = of_named words (contents_of old) schema set type_name name type_no (λ s n content. EndsBy (first_fault s n content) end) is_cat (is_given words (contents_of old) schema set type_name name is_cat gives) is_type
             (subst (λ c. IfSome (content_of c name) (λ content. EndsBy (first_fault schema type_no content) end)) same_contents by.first);
       }
-
-  -- where writing fails that would have ended well
-  pub file_of_write : (words : List (List ℕ)) (old new : S) → EndsByFile contents_of faults_of blamed_of words old new None → EndsByFile contents_of faults_of blamed_of words old new (Some WriteFault)
-  file_of_write words old new well = record {
-    contents = well.contents;
-    counts = well.counts;
-    untouched = λ of_words. absurd (omega (arith, of_words));
-    untouched_types = λ _ _ _ _ _ unread. absurd (omega (arith, unread));
-    read_fault = λ is. cc;
-    blamed = λ is. cc;
-    unblamed = λ _. well.unblamed (λ is. cc);
-    set_there = λ set type_name frames is_cat other _. well.set_there set type_name frames is_cat other (omega arith);
-    there = λ set type_name frames is_cat _. well.there set type_name frames is_cat (omega arith);
-    set = λ set type_name frames is_cat. given_maps (set_given (contents_of old) set) _ _
-        (λ answer by. record { fault = λ _ untyped. absurd (omega (arith, untyped)); no_type = λ name is. cc; type = λ _. by.type (omega arith) })
-        (well.set set type_name frames is_cat);
-    first = λ set type_name frames content schema type_no is_cat told is_type found.
-        let by = well.first set type_name frames content schema type_no is_cat told is_type found in
-        record { fault = λ _ unparsed. absurd (omega (arith, unparsed)); none = λ _. by.none (omega arith) };
-  }
-
--- THE MEMORY
-
-module _ {S K : Type 0} (key_of : S → K) (places_of : S → Places) (buffers_of : S → Buffers) (blocks_of : S → ℕ → ℕ) where
-  same_told : (found : Option (List ℕ)) (now : S) → IfSome found (λ content. IfOk (frames_of content) (λ payloads. Grows key_of places_of buffers_of blocks_of (most_made payloads) (most_made payloads) now now))
-  same_told None now = tt
-  same_told (Some content) now = of_result (frames_of content)
-    where
-      of_result : (r : Result (List (List ℕ)) ℕ) → IfOk r (λ payloads. Grows key_of places_of buffers_of blocks_of (most_made payloads) (most_made payloads) now now)
-      of_result (Ok payloads) = same_grows key_of places_of buffers_of blocks_of (most_made payloads) (most_made payloads) now now refl
-      of_result (Err cut) = tt
-
-  -- nothing was parsed
-  pub grows_same : (found : Option (List ℕ)) (end : Option Fault) (now : S) → GrowsByFrames key_of places_of buffers_of blocks_of found end now now
-  grows_same found end now = record {
-    unplaced = λ _. refl;
-    told = same_told found now;
-    grows = same_grows key_of places_of buffers_of blocks_of (4 * 2 ^ 24) (4 * 2 ^ 24) now now refl;
-  }
-
-  pub grows_none : (words : List (List ℕ)) (files : Option NamedFiles) (end : Option Fault) (now : S) → GrowsByFile key_of places_of buffers_of blocks_of words files end now now
-  grows_none words files end now = record {
-    unplaced = λ _. refl;
-    told = of_none words files (λ schema type_no content. IfOk (frames_of content) (λ payloads. Grows key_of places_of buffers_of blocks_of (most_made payloads) (most_made payloads) now now)) (λ schema type_no content. same_told (Some content) now);
-    grows = same_grows key_of places_of buffers_of blocks_of (4 * 2 ^ 24) (4 * 2 ^ 24) now now refl;
-  }
-
-  -- the payloads of a file were parsed
-  pub grows_parsed : {A : Type 0} (found : Option (List ℕ)) (payloads : List (List ℕ)) (parsed : Result A Fault) (old new : S) → IfErr parsed IsOfPayloads → sum_by length payloads + length payloads ≤ 2 ^ 24
-      → IfSome found (λ content. (length content ≤ 2 ^ 24) × (frames_of content ≡ Ok payloads)) → Grows key_of places_of buffers_of blocks_of (most_made payloads) (most_made payloads) old new
-      → GrowsByFrames key_of places_of buffers_of blocks_of found (result_fault parsed) old new
-  grows_parsed {A} found payloads parsed old new kind fits cut grows = record {
-    unplaced = λ before. absurd (late parsed kind before);
-    told = some_told found cut;
-    grows = growth_widens key_of places_of buffers_of blocks_of (most_made payloads) (4 * 2 ^ 24) (most_made payloads) (4 * 2 ^ 24) old new grows (omega (arith, fits)) (omega (arith, fits));
-  }
-    where
-      late : (r : Result A Fault) → IfErr r IsOfPayloads → last_stage (result_fault r) < at_payloads → ⊥
-      late (Ok x) kind before = omega (arith, before)
-      late (Err fault) kind before = omega (arith, kind, before)
-
-      some_told : (o : Option (List ℕ)) → IfSome o (λ content. (length content ≤ 2 ^ 24) × (frames_of content ≡ Ok payloads))
-          → IfSome o (λ content. IfOk (frames_of content) (λ those. Grows key_of places_of buffers_of blocks_of (most_made those) (most_made those) old new))
-      some_told None h = tt
-      some_told (Some content) h = subst (λ (r : Result (List (List ℕ)) ℕ). IfOk r (λ those. Grows key_of places_of buffers_of blocks_of (most_made those) (most_made those) old new)) (sym h.1) grows
-
-  -- of the file that the words name
-  pub grows_of_frames : (words : List (List ℕ)) (files : Option NamedFiles) (types : Schema) (set type_name name : List ℕ) (type_no : ℕ) (end : Option Fault) (old new : S) → IsCat words set type_name name → IsGiven words files types → IsTypeOf types type_name type_no
-      → GrowsByFrames key_of places_of buffers_of blocks_of (content_of files name) end old new → GrowsByFile key_of places_of buffers_of blocks_of words files end old new
-  grows_of_frames words files types set type_name name type_no end old new is_cat given is_type g = record {
-    unplaced = g.unplaced;
-    told = of_named words files types set type_name name type_no (λ _ _ content. IfOk (frames_of content) (λ payloads. Grows key_of places_of buffers_of blocks_of (most_made payloads) (most_made payloads) old new)) is_cat given is_type g.told;
-    grows = g.grows;
-  }
-
-  pub grows_on : (words : List (List ℕ)) (files : Option NamedFiles) (end : Option Fault) (old new : S) → GrowsByFile key_of places_of buffers_of blocks_of words files None old new → at_payloads ≤ last_stage end → GrowsByFile key_of places_of buffers_of blocks_of words files end old new
-  grows_on words files end old new was past = record { unplaced = λ before. absurd (omega (arith, past, before)); told = was.told; grows = was.grows }
-
-  -- a memory in which there was nothing
-  pub few_there : (most : ℕ) (old new : S) → map.len (places_of old) ≡ 0 → map.len (buffers_of old) ≡ 0 → Grows key_of places_of buffers_of blocks_of most most old new → AreFew most (places_of new) (buffers_of new)
-  few_there most old new no_places no_buffers grows = record { few_places = omega (arith, grows.few_places, no_places); few_buffers = omega (arith, grows.few_buffers, no_buffers) }
-
-  pub few_told : (words : List (List ℕ)) (files : Option NamedFiles) (end : Option Fault) (old new : S) → map.len (places_of old) ≡ 0 → map.len (buffers_of old) ≡ 0 → GrowsByFile key_of places_of buffers_of blocks_of words files end old new
-      → OfContent words files (λ schema type_no content. IfOk (frames_of content) (λ payloads. AreFew (most_made payloads) (places_of new) (buffers_of new)))
-  few_told words files end old new no_places no_buffers grows = λ set type_name frames content schema type_no is_cat told is_type found.
-      IfOk-weaker (frames_of content) _ (λ payloads. AreFew (most_made payloads) (places_of new) (buffers_of new)) (λ payloads. few_there (most_made payloads) old new no_places no_buffers) (grows.told set type_name frames content schema type_no is_cat told is_type found)

@@ -6,7 +6,7 @@ pub mod CauseLaws
 pub mod AllStand
 pub mod Parsing
 pub mod FramesFit
-pub mod Making
 pub mod Written
-pub mod Counted
 pub mod Told
+pub mod Inputs
+pub mod Ending

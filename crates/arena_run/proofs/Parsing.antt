@@ -1,111 +1,208 @@
--- Where a parser of frames stands.
-use Rattle.std.proofs.Common.{◌≡◌, ◌+◌, ◌<◌, ◌≤◌, ℕ, zero, suc, List, [], ◌∷◌, ◌++◌, length, take, drop, Option, None, Some, refl, sym, ap, ◌∙◌, subst, arith}
-use Rattle.std.specs.Prelude.{IsSomeAnd, option_and_then, slice_get}
+-- What the messages of a phase say of the payloads: their trees, and the first fault.
+use Rattle.std.proofs.Common.{◌≡◌, ◌⊎◌, inl, inr, ◌+◌, ◌*◌, ◌^◌, ◌<◌, ◌≤◌, ℕ, zero, suc, List, [], ◌∷◌, length, take, replicate, length-append, Option, None, Some, Result, Ok, refl, sym, ap, ◌∙◌, subst, arith}
+use Rattle.std.specs.Prelude.{sum_by, slice_get, IsSome, IfOk, option_and_then}
+use Rattle.std.specs.List.{concat}
 use Rattle.std.specs.Option.{option_map}
-use Rattle.std.proofs.lemmas.List.{drop_more, take_more, at_drop_all, take_all}
-use Rattle.std.proofs.lemmas.Option.{none-some, get_or_from_slice_get}
-use Rattle.arena_mem.specs.Places.{Places, Buffers, KeepsRest, KeepsBuffers}
+use Rattle.std.proofs.lemmas.List.{take_all}
+use Rattle.std.proofs.lemmas.List.Sums.{sum_by-cons}
+use Rattle.std.proofs.lemmas.Option.{none-some}
+use mathlib.Core.Option.{some, some-injective, some-ne-none}
+use lib.ListN.{get_elem?}
+use Rattle.arena_list.specs.Rule.Founded.{caller}
+use Rattle.arena_list.proofs.Rule.Opening.{at_has}
+use Rattle.arena_list.proofs.Words.Few.{at_map, at_mapped}
 use Rattle.pb_schema.specs.declared.schema.Schema.{Schema}
 use Rattle.pb_schema.specs.declared.wire_fault.WireFault.{WireFault}
 use Rattle.pb_schema.specs.Fault.{fault_of}
-use Rattle.pb_schema.specs.Payloads.{trees_of, bad_payload_from, bad_payload}
-use Rattle.pb_schema.specs.Tree.{Tree}
+use Rattle.pb_schema.specs.Lawful.{Lawful}
+use Rattle.pb_schema.specs.Payloads.{framed_texts, trees_of, bad_payload_from, bad_payload}
+use Rattle.pb_schema.specs.Text.{framed, text_of}
+use Rattle.pb_schema.specs.Tree.{Tree, tree_map}
 use Rattle.pb_schema.specs.TreeOf.{tree_of}
+use Rattle.pb_schema.specs.Varint.{varint_of}
+use Rattle.pb_schema.proofs.FaultLaws.{no_fault_then}
+use Rattle.pb_schema.proofs.Steps.{length-varint_of}
+use Rattle.pb_parse.specs.Whole.{shape_of_payload}
+use Rattle.pb_parse.proofs.TextBound.{text_bounded}
 use Rattle.dyn_message.specs.declared.msg_ref.MsgRef.{MsgRef}
-use Rattle.arena_run.specs.declared.fault.Fault.TheVariants.{BadFrame}
+use Rattle.dyn_message.specs.Feet.{Foot}
+use Rattle.ts_arena.specs.Arena.{ArenaState}
+use Rattle.ts_arena.specs.Sole.{Owns, arena_places, arena_buffers}
+use Rattle.life_ids.specs.Cache.{CacheState}
+use Rattle.ts_arena.specs.Sharing.{Owners}
+use Rattle.ts_arena.specs.Sides.{HoldsPasses}
+use Rattle.ts_arena.specs.declared.side.Side.{Side}
+use Rattle.ts_arena.specs.declared.side.Side.TheVariants.{Sole}
+use Rattle.parse_pool.specs.declared.pool_end.PoolEnd.{PoolEnd}
+use Rattle.parse_pool.specs.declared.pool_end.PoolEnd.TheVariants as ends
+use Rattle.parse_pool.specs.Arenas.{AllParsed, AreEarly, AreOwnersAfter, AreParsed, GrowsTo, IfSole, IsBad, IsSole, KeepsKeys, StandsWith, most_made, part_of}
+use Rattle.parse_pool.specs.Phases.{AreShort}
+use Rattle.parse_pool.specs.Starting.{AreBelow, AreEmpty, FitOwners}
+use Rattle.pb_script.specs.Registers.{RegisterState, cat_registers, in_a}
+use Rattle.arena_run.specs.declared.fault.Fault.{Fault}
+use Rattle.arena_run.specs.declared.fault.Fault.TheVariants.{BadFrame, NoMemory}
 use Rattle.arena_run.specs.Faults.{bad_frame}
-use Rattle.arena_run.specs.Made.{IsMade}
-use Rattle.arena_run.specs.Stands.{StandShort}
-use Rattle.arena_run.proofs.AllStand.{stand_none, stand_more}
+use Rattle.arena_run.specs.Inputs.{LeavesSide}
+use Rattle.arena_run.specs.Registers.{AreEarlyIn}
+use Rattle.arena_run.specs.Stands.{AllStand, StandDecoded}
 
--- payload by payload, its tree
-abbrev pub Decodes : Schema → ℕ → List (List ℕ) → List Tree → Type 0
-Decodes schema type_no [] [] = Unit {0}
-Decodes schema type_no [] (t ∷ ts) = ⊥
-Decodes schema type_no (p ∷ ps) [] = ⊥
-Decodes schema type_no (p ∷ ps) (t ∷ ts) = (tree_of schema type_no p ≡ Some t) × Decodes schema type_no ps ts
-
-decodes_more : (schema : Schema) (type_no : ℕ) (ps : List (List ℕ)) (ts : List Tree) (p : List ℕ) (t : Tree) → Decodes schema type_no ps ts → tree_of schema type_no p ≡ Some t → Decodes schema type_no (ps ++ p ∷ []) (ts ++ t ∷ [])
-decodes_more schema type_no [] [] p t so_far is = (is, tt)
-decodes_more schema type_no [] (u ∷ ts) p t so_far is = absurd so_far
-decodes_more schema type_no (q ∷ ps) [] p t so_far is = absurd so_far
-decodes_more schema type_no (q ∷ ps) (u ∷ ts) p t so_far is = (so_far.0, decodes_more schema type_no ps ts p t so_far.1 is)
+-- TREES
 
 head_tree : (schema : Schema) (type_no : ℕ) (p : List ℕ) (ps : List (List ℕ)) (t : Tree) → tree_of schema type_no p ≡ Some t → trees_of schema type_no (p ∷ ps) ≡ option_map (λ trees. t ∷ trees) (trees_of schema type_no ps)
 head_tree schema type_no p ps t is = ap (option_and_then (λ tree. option_map (λ trees. tree ∷ trees) (trees_of schema type_no ps))) is
 
-trees_decode : (schema : Schema) (type_no : ℕ) (ps : List (List ℕ)) (ts : List Tree) → Decodes schema type_no ps ts → trees_of schema type_no ps ≡ Some ts
-trees_decode schema type_no [] [] d = refl
-trees_decode schema type_no [] (t ∷ ts) d = absurd d
-trees_decode schema type_no (p ∷ ps) [] d = absurd d
-trees_decode schema type_no (p ∷ ps) (t ∷ ts) d = head_tree schema type_no p ps t d.0 ∙ ap (option_map (λ trees. t ∷ trees)) (trees_decode schema type_no ps ts d.1)
+module _ (schema : Schema) (lawful : Lawful schema) (root : ℕ) (a : ArenaState) where
+  -- the messages stand for the trees of these payloads
+  record HaveTrees (payloads : List (List ℕ)) (messages : List MsgRef) (feet : List Foot) : Type 0 where
+    pub trees : List Tree
+    pub decoded : trees_of schema root payloads ≡ Some trees
+    pub stand : AllStand schema (arena_places a) (arena_buffers a) root messages trees feet
+    pub short : length (framed_texts schema root trees) ≤ 20 * sum_by length payloads + 10 * length payloads
+    pub count : length messages ≡ length payloads
 
--- a list at one of its items
-pub slice_below : {X : Type 0} (xs : List X) (i : ℕ) (x : X) → slice_get xs i ≡ Some x → i < length xs
-slice_below [] i x e = absurd (none-some x e)
-slice_below (y ∷ xs) zero x e = omega arith
-slice_below (y ∷ xs) (suc i) x e = omega (arith, slice_below xs i x e)
+  have_trees : (payloads : List (List ℕ)) (messages : List MsgRef) (feet : List Foot) → sum_by length payloads ≤ 2 ^ 24 → AllParsed schema root a payloads messages feet → HaveTrees payloads messages feet
+  have_trees [] [] feet fits all = record { trees = []; decoded = refl; stand = all; short = omega arith; count = refl }
+  have_trees [] (msg ∷ messages) feet fits all = absurd all
+  have_trees (payload ∷ payloads) [] feet fits all = absurd all
+  have_trees (payload ∷ payloads) (msg ∷ messages) feet fits all =
+      let sum = sum_by-cons length payload payloads in
+      let one = all.first in
+      let tree = tree_map concat (shape_of_payload schema root payload) in
+      let text = text_of schema root tree in
+      let later = have_trees payloads messages all.rest (omega (arith, fits, sum)) all.second in
+      let stand : AllStand schema (arena_places a) (arena_buffers a) root (msg ∷ messages) (tree ∷ later.trees) feet =
+      record { own = all.own; rest = all.rest; are = all.are; first = (one.type, record { shape = shape_of_payload schema root payload; stands = one.stands; joined = refl }); second = later.stand } in
+      record {
+        trees = tree ∷ later.trees;
+        decoded = head_tree schema root payload payloads tree one.tree ∙ ap (option_map (λ ts. tree ∷ ts)) later.decoded;
+        stand = stand;
+        short = omega (arith, text_bounded schema root payload tree lawful one.tree, length-varint_of (length text), length-append (varint_of (length text)) text, length-append (framed text) (framed_texts schema root later.trees), later.short, sum);
+        count = ap suc later.count;
+      }
 
-pub taken_more : {X : Type 0} (xs : List X) (i : ℕ) (x : X) → slice_get xs i ≡ Some x → take (i + 1) xs ≡ take i xs ++ x ∷ []
-taken_more xs i x e = take_more xs i x (slice_below xs i x e) ∙ ap (λ y. take i xs ++ y ∷ []) (get_or_from_slice_get xs i x x e)
+  pub parsed_trees : (before : ArenaState) (payloads : List (List ℕ)) (messages : List MsgRef) → sum_by length payloads + length payloads ≤ 2 ^ 24 → AreParsed schema root before a payloads messages → StandDecoded schema (arena_places a) (arena_buffers a) root payloads messages
+  parsed_trees before payloads messages fits are =
+      let have = have_trees payloads messages are.feet (omega (arith, fits)) are.stand in
+      record { trees = have.trees; decoded = have.decoded; stand = record { apart = record { feet = are.feet; stand = have.stand; once = are.once }; short = omega (arith, have.short, fits) } }
 
--- MESSAGES
-
--- these payloads are parsed: their trees, and the messages that stand for them
-pub record ParsedTo (schema : Schema) (type_no : ℕ) (payloads : List (List ℕ)) (places : Places) (buffers : Buffers) (messages : List MsgRef) : Type 0 where
-  pub trees : List Tree
-  pub decoded : Decodes schema type_no payloads trees
-  pub stand : StandShort schema places buffers type_no messages trees
-
-pub parsed_none : (schema : Schema) (type_no : ℕ) (places : Places) (buffers : Buffers) (messages : List MsgRef) → messages ≡ [] → ParsedTo schema type_no [] places buffers messages
-parsed_none schema type_no places buffers messages none =
-    subst (ParsedTo schema type_no [] places buffers) (sym none) (record { trees = []; decoded = tt; stand = stand_none schema places buffers type_no })
-
-one_parsed : (schema : Schema) (type_no : ℕ) (payloads : List (List ℕ)) (old new : Places) (was now : Buffers) (messages : List MsgRef) (payload : List ℕ) (msg : MsgRef) → ParsedTo schema type_no payloads old was messages → KeepsRest old new → KeepsBuffers was now
-    → (found : Option Tree) → tree_of schema type_no payload ≡ found → IsSomeAnd found (IsMade schema old was new now type_no msg) → ParsedTo schema type_no (payloads ++ payload ∷ []) new now (messages ++ msg ∷ [])
-one_parsed schema type_no payloads old new was now messages payload msg so_far kept kept_too None is made = absurd made
-one_parsed schema type_no payloads old new was now messages payload msg so_far kept kept_too (Some t) is made =
-    record {
-      trees = so_far.trees ++ t ∷ [];
-      decoded = decodes_more schema type_no payloads so_far.trees payload t so_far.decoded is;
-      stand = stand_more schema old new was now type_no messages so_far.trees msg t kept kept_too so_far.stand made;
-    }
-
-pub parsed_more : (schema : Schema) (type_no : ℕ) (payloads : List (List ℕ)) (i : ℕ) (old new : Places) (was now : Buffers) (messages after : List MsgRef) (payload : List ℕ) (msg : MsgRef) → ParsedTo schema type_no (take i payloads) old was messages → slice_get payloads i ≡ Some payload
-    → KeepsRest old new → KeepsBuffers was now → IsSomeAnd (tree_of schema type_no payload) (IsMade schema old was new now type_no msg) → after ≡ messages ++ msg ∷ [] → ParsedTo schema type_no (take (i + 1) payloads) new now after
-parsed_more schema type_no payloads i old new was now messages after payload msg so_far here kept kept_too made pushed =
-    subst (λ ps. ParsedTo schema type_no ps new now after) (sym (taken_more payloads i payload here))
-    (subst (ParsedTo schema type_no (take i payloads ++ payload ∷ []) new now) (sym pushed)
-    (one_parsed schema type_no (take i payloads) old new was now messages payload msg so_far kept kept_too (tree_of schema type_no payload) refl made))
-
-pub parsed_all : (schema : Schema) (type_no : ℕ) (payloads : List (List ℕ)) (i : ℕ) (places : Places) (buffers : Buffers) (messages : List MsgRef) → ParsedTo schema type_no (take i payloads) places buffers messages → length payloads ≤ i
-    → IsSomeAnd (trees_of schema type_no payloads) (StandShort schema places buffers type_no messages)
-parsed_all schema type_no payloads i places buffers messages so_far past =
-    subst (λ o. IsSomeAnd o (StandShort schema places buffers type_no messages)) (sym (ap (trees_of schema type_no) (sym (take_all i payloads past)) ∙ trees_decode schema type_no (take i payloads) so_far.trees so_far.decoded)) so_far.stand
+  pub parsed_count : (before : ArenaState) (payloads : List (List ℕ)) (messages : List MsgRef) → sum_by length payloads + length payloads ≤ 2 ^ 24 → AreParsed schema root before a payloads messages → length messages ≡ length payloads
+  parsed_count before payloads messages fits are = (have_trees payloads messages are.feet (omega (arith, fits)) are.stand).count
 
 -- FAULTS
 
 abbrev if_sound : Schema → ℕ → ℕ → List (List ℕ) → Option WireFault → Option (ℕ × WireFault)
-if_sound schema type_no index payloads found = elim found [ Some fault ↦ Some (index, fault) | None ↦ bad_payload_from schema type_no (suc index) payloads ]
+if_sound schema root index payloads found = elim found [ Some fault ↦ Some (index, fault) | None ↦ bad_payload_from schema root (suc index) payloads ]
 
-bad_front : (schema : Schema) (type_no : ℕ) (payloads : List (List ℕ)) (i : ℕ) (payload : List ℕ) → slice_get payloads i ≡ Some payload → bad_payload_from schema type_no i (drop i payloads) ≡ if_sound schema type_no i (drop (i + 1) payloads) (fault_of schema type_no 0 payload)
-bad_front schema type_no payloads i payload here =
-    ap (bad_payload_from schema type_no i) (drop_more payloads i payload (slice_below payloads i payload here) ∙ ap (λ p. p ∷ drop (i + 1) payloads) (get_or_from_slice_get payloads i payload payload here))
+sound_from : (schema : Schema) (root : ℕ) (a : ArenaState) (k : ℕ) (payloads : List (List ℕ)) (messages : List MsgRef) (feet : List Foot) → AllParsed schema root a payloads messages feet → bad_payload_from schema root k payloads ≡ None
+sound_from schema root a k [] messages feet all = refl
+sound_from schema root a k (payload ∷ payloads) [] feet all = absurd all
+sound_from schema root a k (payload ∷ payloads) (msg ∷ messages) feet all =
+    ap (if_sound schema root k payloads) (no_fault_then schema root payload (some_is (tree_of schema root payload) _ all.first.tree)) ∙ sound_from schema root a (suc k) payloads messages all.rest all.second
+  where
+    some_is : (o : Option Tree) (t : Tree) → o ≡ Some t → IsSome o
+    some_is o t e = subst IsSome (sym e) refl
 
--- the payloads from here on have the first fault of all
-abbrev pub SoundTo : Schema → ℕ → List (List ℕ) → ℕ → Type 0
-SoundTo schema type_no payloads i = bad_payload_from schema type_no i (drop i payloads) ≡ bad_payload schema type_no payloads
+pub parsed_sound : (schema : Schema) (root : ℕ) (before a : ArenaState) (payloads : List (List ℕ)) (messages : List MsgRef) → AreParsed schema root before a payloads messages → bad_payload schema root payloads ≡ None
+parsed_sound schema root before a payloads messages are = sound_from schema root a 0 payloads messages are.feet are.stand
 
-pub sound_none : (schema : Schema) (type_no : ℕ) (payloads : List (List ℕ)) → SoundTo schema type_no payloads 0
-sound_none schema type_no payloads = refl
+bad_from : (schema : Schema) (root k : ℕ) (payloads : List (List ℕ)) (at : ℕ) (payload : List ℕ) (fault : WireFault) → get_elem? payloads at ≡ some payload → fault_of schema root 0 payload ≡ Some fault
+    → ((j : ℕ) (earlier : List ℕ) → j < at → get_elem? payloads j ≡ some earlier → fault_of schema root 0 earlier ≡ None) → bad_payload_from schema root k payloads ≡ Some (k + at, fault)
+bad_from schema root k [] at payload fault there bad least = absurd (some-ne-none payload (sym there))
+bad_from schema root k (p ∷ payloads) zero payload fault there bad least =
+    let same : p ≡ payload = some-injective p payload there in
+    let index : k ≡ k + 0 = omega arith in
+    ap (if_sound schema root k payloads) (ap (fault_of schema root 0) same ∙ bad) ∙ ap (λ n. Some (n, fault)) index
+bad_from schema root k (p ∷ payloads) (suc at) payload fault there bad least =
+    let later = bad_from schema root (suc k) payloads at payload fault there bad (λ j earlier below is. least (suc j) earlier (omega (arith, below)) is) in
+    ap (if_sound schema root k payloads) (least 0 p (omega arith) refl) ∙ (later ∙ ap (λ n. Some (n, fault)) (next k at))
+  where
+    next : (m n : ℕ) → suc m + n ≡ m + suc n
+    next m n = omega arith
 
-pub sound_more : (schema : Schema) (type_no : ℕ) (payloads : List (List ℕ)) (i : ℕ) (payload : List ℕ) → SoundTo schema type_no payloads i → slice_get payloads i ≡ Some payload → fault_of schema type_no 0 payload ≡ None → SoundTo schema type_no payloads (i + 1)
-sound_more schema type_no payloads i payload so_far here sound =
-    let next : i + 1 ≡ suc i = omega arith in
-    ap (λ n. bad_payload_from schema type_no n (drop (i + 1) payloads)) next ∙ (sym (bad_front schema type_no payloads i payload here ∙ ap (if_sound schema type_no i (drop (i + 1) payloads)) sound) ∙ so_far)
+pub bad_first : (schema : Schema) (root : ℕ) (payloads : List (List ℕ)) (index : ℕ) (fault : WireFault) → IsBad schema root 0 payloads index fault → option_map bad_frame (bad_payload schema root payloads) ≡ Some (BadFrame index fault)
+bad_first schema root payloads index fault is =
+    ap (option_map bad_frame) (bad_from schema root 0 payloads is.at is.payload fault is.there is.fault_is is.least ∙ ap (λ n. Some (n, fault)) (sym is.index_is))
 
-pub bad_here : (schema : Schema) (type_no : ℕ) (payloads : List (List ℕ)) (i : ℕ) (payload : List ℕ) (d : WireFault) → SoundTo schema type_no payloads i → slice_get payloads i ≡ Some payload → fault_of schema type_no 0 payload ≡ Some d → option_map bad_frame (bad_payload schema type_no payloads) ≡ Some (BadFrame i d)
-bad_here schema type_no payloads i payload d so_far here bad = ap (option_map bad_frame) (sym so_far ∙ (bad_front schema type_no payloads i payload here ∙ ap (if_sound schema type_no i (drop (i + 1) payloads)) bad))
+-- CALLERS
 
-pub all_sound : (schema : Schema) (type_no : ℕ) (payloads : List (List ℕ)) (i : ℕ) → SoundTo schema type_no payloads i → length payloads ≤ i → bad_payload schema type_no payloads ≡ None
-all_sound schema type_no payloads i so_far past = sym so_far ∙ at_drop_all (bad_payload_from schema type_no i) payloads i past
+-- a caller whose part has a message owns something
+pub early_owner : (workers : ℕ) (a : ArenaState) (messages : List MsgRef) → 1 ≤ workers → AreEarly workers a messages → 0 < length messages → Owns a.owners 0
+early_owner workers a [] some_worker early more = absurd (omega (arith, more))
+early_owner workers a (msg ∷ messages) some_worker early more =
+    let with : StandsWith a 0 msg = early 0 msg (omega (arith, some_worker)) refl in
+    let among = with.1 in
+    at_has _ among.0 0 (at_map caller a.owners among.0 with.0 among.1 ∙ ap (λ (y : ℕ). some y) with.2)
+
+pub early_in : (workers : ℕ) (a : ArenaState) (messages : List MsgRef) (registers : List RegisterState) → registers ≡ cat_registers messages → AreEarly workers a messages → AreEarlyIn workers a registers
+early_in workers a messages registers are early = λ w r msg below there holds.
+    let found = at_mapped in_a messages w r (ap (λ rs. get_elem? rs w) (sym are) ∙ there) in
+    let same : found.0 ≡ msg = same_msg found.0 msg (ap (λ (s : RegisterState). s.msg) found.2 ∙ holds) in
+    early w msg below (found.1 ∙ ap (λ (m : MsgRef). some m) same)
+  where
+    same_msg : (m n : MsgRef) → ◌≡◌ {A = Option MsgRef} (Some m) (Some n) → m ≡ n
+    same_msg m n e = cc
+
+-- A PHASE OVER ALL FRAMES
+
+one_below : (payloads : List (List ℕ)) (i : ℕ) (payload : List ℕ) → slice_get payloads i ≡ Some payload → length payload ≤ sum_by length payloads
+one_below [] i payload here = absurd (none-some payload here)
+one_below (p ∷ payloads) zero payload here = let same : p ≡ payload = cc in omega (arith, ap length same, sum_by-cons length p payloads)
+one_below (p ∷ payloads) (suc i) payload here = omega (arith, one_below payloads i payload here, sum_by-cons length p payloads)
+
+pub short_all : (payloads : List (List ℕ)) (first last : ℕ) → sum_by length payloads + length payloads ≤ 2 ^ 24 → AreShort payloads first last
+short_all payloads first last fits = λ frame payload low high here. omega (arith, one_below payloads frame payload here, fits)
+
+-- caches of no life fit whatever owners
+pub fit_none : (life : ℕ) (owners : Owners) (caches : List CacheState) → 1 ≤ life → AreEmpty caches → FitOwners life owners caches
+fit_none life owners caches born none = λ k cache here same. absurd (omega (arith, none k cache here, same, born))
+
+pub below_none : (most : ℕ) (owners : Owners) → owners ≡ [] → AreBelow most owners
+below_none most owners none = λ e among. absurd (some-ne-none e (sym (ap (λ es. get_elem? es among.0) (sym none) ∙ among.1)))
+
+pub part_all : (payloads : List (List ℕ)) (count : ℕ) → count ≡ length payloads → part_of 0 count payloads ≡ payloads
+part_all payloads count same = take_all count payloads (omega (arith, same))
+
+-- what a phase leaves is what parsing these payloads leaves
+pub side_left : (workers : ℕ) (payloads those : List (List ℕ)) (end : Option Fault) (before : ArenaState) (side : Side) → those ≡ payloads → HoldsPasses side → KeepsKeys before side → ((end ≡ Some NoMemory → ⊥) → IsSole side) → IfSole side (AreOwnersAfter workers before) → IfSole side (GrowsTo (most_made those) before)
+    → LeavesSide workers payloads end before side
+side_left workers payloads those end before side same passes keys settled owners grows = record {
+  passes = passes;
+  keys = keys;
+  settled = settled;
+  owners = owners;
+  grows = subst (λ ps. IfSole side (GrowsTo (most_made ps) before)) same grows;
+}
+
+sole_ok : {V : Type 0} (r : Result V PoolEnd) (m : V) (side : Side) (a : ArenaState) (P : V → ArenaState → Type 0) → r ≡ Ok m → side ≡ Sole a → IfOk r (λ x. IfSole side (P x)) → P m a
+sole_ok {V} r m side a P ok sole p =
+    let at : IfSole side (P m) = subst (λ (x : Result V PoolEnd). IfOk x (λ y. IfSole side (P y))) ok p in
+    subst (λ s. IfSole s (P m)) sole at
+
+-- the messages of all frames, where the phase went well
+pub phase_parsed : {V : Type 0} (items : V → List MsgRef) (schema : Schema) (root : ℕ) (before : ArenaState) (payloads those : List (List ℕ)) (r : Result V PoolEnd) (m : V) (side : Side) (a : ArenaState) → those ≡ payloads → r ≡ Ok m → side ≡ Sole a
+    → IfOk r (λ x. IfSole side (λ b. AreParsed schema root before b those (items x))) → AreParsed schema root before a payloads (items m)
+phase_parsed items schema root before payloads those r m side a same ok sole p =
+    subst (λ ps. AreParsed schema root before a ps (items m)) same (sole_ok r m side a (λ x b. AreParsed schema root before b those (items x)) ok sole p)
+
+-- the fault of a phase that ended in want of memory
+pub memory_fault : (end : PoolEnd) (fault : Fault) → (((index : ℕ) (bad : WireFault) → end ≡ ends.BadFrame index bad → ⊥) → fault ≡ NoMemory) → end ≡ ends.NoMemory → fault ≡ NoMemory
+memory_fault end fault other is = other (λ index bad e. absurd (let both : ends.NoMemory ≡ ends.BadFrame index bad = sym is ∙ e in cc))
+
+pub phase_fault : (schema : Schema) (root : ℕ) (payloads : List (List ℕ)) (end : PoolEnd) (fault : Fault) → ((index : ℕ) (bad : WireFault) → end ≡ ends.BadFrame index bad → fault ≡ BadFrame index bad) → (((index : ℕ) (bad : WireFault) → end ≡ ends.BadFrame index bad → ⊥) → fault ≡ NoMemory)
+    → ((index : ℕ) (bad : WireFault) → end ≡ ends.BadFrame index bad → IsBad schema root 0 payloads index bad) → (fault ≡ NoMemory) ⊎ (option_map bad_frame (bad_payload schema root payloads) ≡ Some fault)
+phase_fault schema root payloads (ends.BadFrame index bad) fault told other is = inr (bad_first schema root payloads index bad (is index bad refl) ∙ ap Some (sym (told index bad refl)))
+phase_fault schema root payloads ends.Done fault told other is = inl (other (λ index bad e. absurd (cc)))
+phase_fault schema root payloads ends.NoMemory fault told other is = inl (other (λ index bad e. absurd (cc)))
+phase_fault schema root payloads (ends.BlocksSpent region) fault told other is = inl (other (λ index bad e. absurd (cc)))
+
+-- the same caches over and over, and the first ones of some
+pub empty_over : (n : ℕ) (x : CacheState) → x.life ≡ 0 → AreEmpty (replicate n x)
+empty_over zero x none k cache here = absurd (some-ne-none cache (sym here))
+empty_over (suc n) x none zero cache here = subst (λ (c : CacheState). c.life ≡ 0) (some-injective x cache here) none
+empty_over (suc n) x none (suc k) cache here = empty_over n x none k cache here
+
+pub empty_front : (caches : List CacheState) (n : ℕ) → AreEmpty caches → AreEmpty (take n caches)
+empty_front caches zero empty k cache here = absurd (some-ne-none cache (sym here))
+empty_front [] (suc n) empty k cache here = absurd (some-ne-none cache (sym here))
+empty_front (c ∷ caches) (suc n) empty zero cache here = empty 0 cache here
+empty_front (c ∷ caches) (suc n) empty (suc k) cache here = empty_front caches n (λ j x at. empty (suc j) x at) k cache here

@@ -7,10 +7,10 @@ use Rattle.pb_schema.specs.declared.schema.Schema.{Schema}
 use Rattle.arena_run.specs.declared.command.Command.{Command}
 use Rattle.arena_run.specs.declared.command.Command.TheVariants.{Cat, Run, Gen}
 use Rattle.arena_run.specs.declared.fault.Fault.{Fault}
-use Rattle.arena_run.specs.declared.fault.Fault.TheVariants.{NoMemory, Usage, NotBuilt, NoType, WriteFault}
+use Rattle.arena_run.specs.declared.fault.Fault.TheVariants.{NoMemory, Usage, NotBuilt, NoType}
 use Rattle.arena_run.specs.Causes.{EndsByWords}
 use Rattle.arena_run.specs.Ends.{first_stage, last_stage, at_set, at_types, IsOfSet, IsOfWords, IsPastWords}
-use Rattle.arena_run.specs.Words.{number_in, Spells, IsNumber, IsWorkers, HasForm, HasNoForm, IsReadFrom, IsCat, IsOtherCommand, HasNoType}
+use Rattle.arena_run.specs.Words.{number_in, Spells, AsksFor, IsWorkers, HasForm, HasNoForm, IsReadFrom, IsCat, IsOtherCommand, HasNoType}
 
 pub same_bytes : (xs ys zs : List ℕ) → xs ≡ ys → bytes_eq xs zs ≡ true → ys ≡ zs
 same_bytes xs ys zs e test = sym e ∙ (bytes_eq-Decides xs zs).0 test
@@ -79,27 +79,26 @@ no_run_form words a b c d e workers are refuted form = ⊎_elim
 
 -- THE COMMAND THAT IS BUILT
 
-one_is : (workers : ℕ) (spelled word : List ℕ) → Spells 2 1 64 spelled workers → word ≡ spelled → IsNumber 2 1 1 word → workers ≡ 1
-one_is workers spelled word spells same one =
-    let found : number_in word ≡ Some workers = ap number_in same ∙ spells.value in
-    let told = one.1.value in
-    let is : one.0 ≡ workers = cc in
-    omega (arith, is, one.1.low, one.1.high)
-
--- the words of `cat` with one worker
+-- the words of `cat`
 pub is_cat : (words : List (List ℕ)) (set type_name frames : List ℕ) (workers : ℕ) → (spelled : List ℕ) × (words ≡ codes "cat" ∷ set ∷ type_name ∷ frames ∷ spelled ∷ []) × Spells 2 1 64 spelled workers
-    → workers ≡ 1 → IsCat words set type_name frames
-is_cat words set type_name frames workers read one =
-    let spells = read.2 in
-    record { workers = read.0; are = read.1; one = (workers, record { some = spells.some; few = spells.few; value = spells.value; low = spells.low; high = omega (arith, one) }) }
+    → IsCat words set type_name frames
+is_cat words set type_name frames workers read = record { workers = read.0; are = read.1; count = (workers, read.2) }
 
-pub other_cat : (words : List (List ℕ)) (set type_name frames : List ℕ) (workers : ℕ) → (spelled : List ℕ) × (words ≡ codes "cat" ∷ set ∷ type_name ∷ frames ∷ spelled ∷ []) × Spells 2 1 64 spelled workers
-    → (workers ≡ 1 → ⊥) → IsOtherCommand words
-other_cat words set type_name frames workers read refuted a_set type named is =
-    let are = read.1 in
-    let other = is.are in
-    let same : is.workers ≡ read.0 = cc in
-    refuted (one_is workers read.0 is.workers read.2 same is.one)
+pub asks_for : (words : List (List ℕ)) (set type_name frames : List ℕ) (workers : ℕ) → (spelled : List ℕ) × (words ≡ codes "cat" ∷ set ∷ type_name ∷ frames ∷ spelled ∷ []) × Spells 2 1 64 spelled workers
+    → AsksFor words workers
+unfolding is_cat
+asks_for words set type_name frames workers read = record { set = set; type_name = type_name; frames = frames; cat = is_cat words set type_name frames workers read; spelled = read.2 }
+
+-- they ask for one number of workers
+pub one_count : (words : List (List ℕ)) (m n : ℕ) → AsksFor words m → AsksFor words n → m ≡ n
+one_count words m n p q =
+    let first = p.cat.are in
+    let second = q.cat.are in
+    let same : p.cat.workers ≡ q.cat.workers = cc in
+    let value : number_in p.cat.workers ≡ Some m = p.spelled.value in
+    let other : number_in q.cat.workers ≡ Some n = q.spelled.value in
+    let joined : ◌≡◌ {A = Option ℕ} (Some m) (Some n) = sym value ∙ (ap number_in same ∙ other) in
+    cc
 
 pub other_run : (words : List (List ℕ)) (set type_name frames script workers : List ℕ) → words ≡ codes "run" ∷ set ∷ type_name ∷ frames ∷ script ∷ workers ∷ [] → IsOtherCommand words
 other_run words set type_name frames script workers are a_set type named is = let other = is.are in cc
@@ -108,9 +107,7 @@ pub other_gen : (words : List (List ℕ)) (seed count workers : List ℕ) → wo
 other_gen words seed count workers are a_set type named is = let other = is.are in cc
 
 cat_is_form : (words : List (List ℕ)) (set type_name frames : List ℕ) → IsCat words set type_name frames → HasForm words
-cat_is_form words set type_name frames is =
-    let one = is.one.1 in
-    inl (record { set = set; type_name = type_name; frames = frames; workers = is.workers; are = is.are; count = (is.one.0, record { some = one.some; few = one.few; value = one.value; low = one.low; high = omega (arith, one.high) }) })
+cat_is_form words set type_name frames is = inl (record { set = set; type_name = type_name; frames = frames; workers = is.workers; are = is.are; count = is.count })
 
 -- WHAT FOLLOWS FROM THE WORDS
 
@@ -161,9 +158,3 @@ words_untyped words set type_name frames schema fault is_cat (inr none) =
 pub words_typed : (words : List (List ℕ)) (set type_name frames : List ℕ) (end : Option Fault) → IsCat words set type_name frames → at_types < last_stage end → EndsByWords words end
 words_typed words set type_name frames end is past =
     words_past words set type_name frames end is (omega (arith, past)) (λ name e. absurd (let told : at_types < last_stage (Some (NoType name)) = subst (λ o. at_types < last_stage o) e past in omega (arith, told)))
-
--- where writing fails that would have ended well
-pub words_written : (words : List (List ℕ)) → EndsByWords words None → EndsByWords words (Some WriteFault)
-words_written words by =
-    let cat = by.command.0 (omega arith) in
-    words_past words cat.0 cat.1 cat.2 (Some WriteFault) cat.3 (omega arith) (λ name e. absurd (cc))

@@ -1,17 +1,19 @@
--- Why a run, or a part of it, ended as it did: by its words, by the files, and what it left in the memory.
-use Rattle.std.specs.Prelude.{◌≡◌, ◌⊎◌, ◌↔◌, ◌+◌, ◌*◌, ◌^◌, ◌≤◌, ℕ, true, false, List, length, sum_by, Option, Some, IfOk, IfSome}
-use Rattle.std.specs.FinMap as map
-use Rattle.arena_mem.specs.Grows.{Grows}
+-- Why a run, or a part of it, ended as it did: by its words, by the files, and what it left of the arena.
+use Rattle.std.specs.Prelude.{◌≡◌, ◌⊎◌, ◌↔◌, ◌*◌, ◌^◌, ◌≤◌, ℕ, true, false, List, Option, Some, IfOk, IfSome}
 use Rattle.arena_mem.specs.Outside.{NamedFiles, Rose, IsThere}
-use Rattle.arena_mem.specs.Places.{Places, Buffers}
 use Rattle.pb_schema.specs.Frames.{frames_of}
+use Rattle.ts_arena.specs.declared.side.Side.{Side}
+use Rattle.ts_arena.specs.declared.side.Side.TheVariants.{Sole}
+use Rattle.ts_arena.specs.Arena.{ArenaState}
+use Rattle.ts_arena.specs.Sides.{HoldsPasses}
+use Rattle.parse_pool.specs.Arenas.{AreOwnersAfter, GrowsTo, IfSole, IsSole, KeepsKeys, most_made}
 use Rattle.arena_run.specs.declared.fault.Fault.{Fault}
 use Rattle.arena_run.specs.declared.fault.Fault.TheVariants.{NoMemory, Usage, NoType, ReadFault, NotBuilt}
 use Rattle.arena_run.specs.Contents.{OfContent}
 use Rattle.arena_run.specs.Ends.{IsOfWords, IsPastWords, IsRead, IsSetRead, IsUnread, IsUnplaced, EndsBy, EndsBySet}
 use Rattle.arena_run.specs.Faults.{first_fault}
 use Rattle.arena_run.specs.Sets.{IsTypedBy, is_built_in, set_given}
-use Rattle.arena_run.specs.Words.{HasNoForm, IsCat, IsUnbuilt}
+use Rattle.arena_run.specs.Words.{HasNoForm, AsksFor, IsCat, IsUnbuilt}
 
 -- THE WORDS
 
@@ -65,21 +67,18 @@ pub record EndsByFile {S : Type 0} (contents_of : S → Option NamedFiles) (faul
   pub set : (set type_name frames : List ℕ) → IsCat words set type_name frames → IfSome (set_given (contents_of old) set) (λ answer. EndsBySet answer type_name end)
   pub first : OfContent words (contents_of old) (λ schema type_no content. EndsBy (first_fault schema type_no content) end)
 
--- THE MEMORY
+-- THE ARENA
 
--- how many places, or buffers, are made for these payloads at most: 4 for each byte and each frame
-abbrev pub most_made : List (List ℕ) → ℕ
-most_made payloads = 4 * (sum_by length payloads + length payloads)
-
--- so many places at most, and as many buffers
-pub record AreFew (most : ℕ) (places : Places) (buffers : Buffers) : Type 0 where
-  pub few_places : map.len places ≤ most
-  pub few_buffers : map.len buffers ≤ most
-
--- what a run with these words did to the memory, of which the first four arguments are the members
-pub record GrowsByFile {S K : Type 0} (key_of : S → K) (places_of : S → Places) (buffers_of : S → Buffers) (blocks_of : S → ℕ → ℕ) (words : List (List ℕ)) (files : Option NamedFiles) (end : Option Fault) (old new : S) : Type 0 where
+-- what a run with these words left of the arena that its registers stand in
+pub record LeavesArena (words : List (List ℕ)) (files : Option NamedFiles) (end : Option Fault) (before : ArenaState) (side : Side) : Type 0 where
+  -- it keeps its life, its policy and its adopted regions, and holds all its passes where it isn't settled, which comes in want of memory alone
+  pub passes : HoldsPasses side
+  pub keys : KeepsKeys before side
+  pub settled : (end ≡ Some NoMemory → ⊥) → IsSole side
   -- it is as it was where the run ended before it parsed a payload
-  pub unplaced : IsUnplaced end → new ≡ old
+  pub unplaced : IsUnplaced end → side ≡ Sole before
+  -- its owners are those from before, and some of the callers below the number of workers
+  pub owners : (workers : ℕ) → AsksFor words workers → IfSole side (AreOwnersAfter workers before)
   -- it grew by what the payloads ask for, where the file is told, and by what those of any file ask for
-  pub told : OfContent words files (λ schema type_no content. IfOk (frames_of content) (λ payloads. Grows key_of places_of buffers_of blocks_of (most_made payloads) (most_made payloads) old new))
-  pub grows : Grows key_of places_of buffers_of blocks_of (4 * 2 ^ 24) (4 * 2 ^ 24) old new
+  pub told : OfContent words files (λ schema type_no content. IfOk (frames_of content) (λ payloads. IfSole side (GrowsTo (most_made payloads) before)))
+  pub grows : IfSole side (GrowsTo (4 * 2 ^ 24) before)

@@ -118,6 +118,10 @@ IsRead end = at_reading < first_stage end
 abbrev pub IsUnplaced : Option Fault → Type 0
 IsUnplaced end = last_stage end < at_payloads
 
+-- the frames were read and cut: it ended by parsing, by writing or well
+abbrev pub IsPastFrames : Option Fault → Type 0
+IsPastFrames end = at_payloads ≤ last_stage end
+
 -- it ended before it wrote
 abbrev pub IsUnparsed : Option Fault → Type 0
 IsUnparsed end = last_stage end < at_writing

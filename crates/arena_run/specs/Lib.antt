@@ -3,8 +3,11 @@ pub mod Sets
 pub mod Faults
 pub mod Contents
 pub mod Stands
-pub mod Made
+pub mod Registers
 pub mod Frames
 pub mod Ends
 pub mod Causes
+pub mod Inputs
+pub mod Lines
+pub mod Lives
 pub mod FaultTexts

@@ -83,7 +83,15 @@ IsReadFrom words (Gen seed count workers) =
 pub record IsCat (words : List (List ℕ)) (set type_name frames : List ℕ) : Type 0 where
   pub workers : List ℕ
   pub are : words ≡ codes "cat" ∷ set ∷ type_name ∷ frames ∷ workers ∷ []
-  pub one : IsNumber 2 1 1 workers
+  pub count : IsWorkers workers
+
+-- they ask for so many workers
+pub record AsksFor (words : List (List ℕ)) (count : ℕ) : Type 0 where
+  pub set : List ℕ
+  pub type_name : List ℕ
+  pub frames : List ℕ
+  pub cat : IsCat words set type_name frames
+  pub spelled : Spells 2 1 64 cat.workers count
 
 -- the words are those of no command that is built
 abbrev pub IsOtherCommand : List (List ℕ) → Type 0

@@ -1,87 +1,121 @@
-// Parsing the frames of a file into messages.
-ghost use Rattle.std.specs.Prelude.{◌≡◌, ◌⊎◌, ◌+◌, ◌*◌, ◌^◌, ◌<◌, ◌≤◌, [], None, Some, length, sum_by, IfOk, IfErr, IsSomeAnd};
+// Parsing the frames of a file into messages, by workers.
+ghost use Rattle.std.specs.Prelude.{◌≡◌, ◌⊎◌, ◌+◌, ◌^◌, ◌<◌, ◌≤◌, [], None, Some, length, sum_by, IfOk, IfErr};
 ghost use Rattle.std.specs.Option.{option_map};
-ghost use Rattle.arena_mem.specs.Grows.{Grows};
-ghost use Rattle.pb_schema.specs.Fault.{fault_of};
-ghost use Rattle.pb_schema.specs.Payloads.{trees_of, bad_payload};
-ghost use Rattle.pb_schema.specs.TreeOf.{tree_of};
-ghost use Rattle.arena_run.specs.Causes.{most_made};
+ghost use Rattle.pb_schema.specs.Payloads.{bad_payload};
+ghost use Rattle.parse_pool.specs.Arenas.{AreEarly};
+ghost use Rattle.parse_pool.specs.Starting.{AreEmpty};
+ghost use Rattle.ts_arena.specs.Sole.{arena_places, arena_buffers};
 ghost use Rattle.arena_run.specs.Ends.{IsLimited, IsOfPayloads};
 ghost use Rattle.arena_run.specs.Faults.{bad_frame};
-ghost use Rattle.arena_run.specs.Stands.{StandShort};
-ghost use Rattle.arena_run.specs.Made.{IsMade, IsBadBy};
+ghost use Rattle.arena_run.specs.Inputs.{IsSmall, LeavesSide};
+ghost use Rattle.arena_run.specs.Stands.{StandDecoded};
 
 use crate::fault::Fault;
-use arena_mem::Memory;
-use dyn_message::{MsgRef, create};
-use msg_layout::tables::Layouts;
-use pb_parse::{ParseFault, parse_into};
-use pb_wire::Frames;
+use crate::gather::Input;
+use dyn_message::MsgRef;
+use life_ids::ThreadCache;
+use parse_pool::{Gate, PoolEnd, parse_phase};
 use std::alloc::Global;
+use std::thread::Threads;
+use ts_arena::{Arena, Side};
 
-/// Parses each frame into a message of its own of the type with this number, and answers the messages in order.
-pub fn parse_frames<M: Memory>(
+/// How many workers there may be.
+const MOST_WORKERS: usize = 64;
+
+/// Parses each frame into a message of its own in the arena, which has no owners yet, and answers the messages in the order
+/// of the frames.
+pub fn parse_input<R: Threads + Sync, G: Gate + Sync>(
+    rt: &R,
     alloc: Global,
-    mem: &mut M,
-    types: &Layouts,
-    type_no: u32,
-    frames: &Frames,
-) -> Result<Vec<MsgRef>, Fault>
-    requires fits { sum_by length frames.now + length frames.now ≤ 2 ^ 24 }
-    requires there { type_no < length types.now.types }
-    ensures stand { IfOk result (λ messages. IsSomeAnd (trees_of types.now type_no frames.now) (λ trees. StandShort types.now (M.places mem.new) (M.buffers mem.new) type_no messages.items trees)) }
-    ensures sound { IfOk result (λ _. bad_payload types.now type_no frames.now ≡ None) }
-    ensures kind { IfErr result IsOfPayloads }
-    ensures limits { IfErr result IsLimited }
-    ensures fault { IfErr result (λ fault. (fault ≡ Fault.NoMemory) ⊎ (option_map bad_frame (bad_payload types.now type_no frames.now) ≡ Some fault)) }
-    ensures grows { Grows M.key M.places M.buffers M.blocks (most_made frames.now) (most_made frames.now) mem.old mem.new }
+    input: &Input,
+    gate: &G,
+    arena: Arena,
+) -> Result<(Arena, Vec<MsgRef>), (Fault, Side)>
+    requires small { IsSmall input.now.types input.now.root input.now.frames input.now.workers }
+    requires owners { arena.owners ≡ [] }
+    ensures leaves { IfOk result (λ r. LeavesSide input.now.workers input.now.frames None arena (Side.Sole r.0)) }
+    ensures stand { IfOk result (λ r. StandDecoded input.now.types (arena_places r.0) (arena_buffers r.0) input.now.root input.now.frames r.1.items) }
+    ensures sound { IfOk result (λ _. bad_payload input.now.types input.now.root input.now.frames ≡ None) }
+    ensures early { IfOk result (λ r. AreEarly input.now.workers r.0 r.1.items) }
+    ensures count { IfOk result (λ r. length r.1.items ≡ length input.now.frames) }
+    ensures left { IfErr result (λ e. LeavesSide input.now.workers input.now.frames (Some e.0) arena e.1) }
+    ensures kind { IfErr result (λ e. IsOfPayloads e.0) }
+    ensures limits { IfErr result (λ e. IsLimited e.0) }
+    ensures fault { IfErr result (λ e. (e.0 ≡ Fault.NoMemory) ⊎ (option_map bad_frame (bad_payload input.now.types input.now.root input.now.frames) ≡ Some e.0)) }
 {
-    let count = frames.count();
-    let mut messages = room_for_messages(alloc, count)?;
-    for index in 0..count {
-        let message = match parse_frame(alloc, mem, types, type_no, frames.payload(index)) {
-            Ok(message) => message,
-            Err(ParseFault::Bad(fault)) => return Err(Fault::BadFrame { index, fault }),
-            Err(ParseFault::NoMemory) => return Err(Fault::NoMemory),
-            // No file of 2^24 bytes asks for so many blocks.
-            Err(ParseFault::BlocksSpent { .. }) => return Err(Fault::NoMemory),
-        };
-        if messages.push(message).is_err() {
-            return Err(Fault::NoMemory);
-        }
-    }
-    Ok(messages)
+    let mut caches = empty_caches();
+    parse_with(
+        rt,
+        alloc,
+        input,
+        gate,
+        arena,
+        &mut caches[..input.workers as usize],
+    )
 }
 
-// Parses one payload into a message that is made for it.
-fn parse_frame<M: Memory>(
-    alloc: Global,
-    mem: &mut M,
-    types: &Layouts,
-    type_no: u32,
-    payload: &[u8],
-) -> Result<MsgRef, ParseFault>
-    requires short { length payload.now < 2 ^ 25 }
-    requires there { type_no < length types.now.types }
-    ensures made { IfOk result (λ msg. IsSomeAnd (tree_of types.now type_no payload.now) (IsMade types.now (M.places mem.old) (M.buffers mem.old) (M.places mem.new) (M.buffers mem.new) type_no msg)) }
-    ensures sound { IfOk result (λ _. fault_of types.now type_no 0 payload.now ≡ None) }
-    ensures fault { IfErr result (IsBadBy (fault_of types.now type_no 0 payload.now)) }
-    ensures grows { Grows M.key M.places M.buffers M.blocks (4 * length payload.now + 4) (4 * length payload.now + 4) mem.old mem.new }
+// Caches of no life, one for each worker that there may be.
+fn empty_caches() -> [ThreadCache; MOST_WORKERS]
+    ensures { AreEmpty result }
 {
-    let _schema = types.schema();
-    let Ok(msg) = create(mem, types, type_no) else {
-        return Err(ParseFault::NoMemory);
-    };
-    match parse_into(alloc, mem, types, msg, payload) {
-        Ok(()) => Ok(msg),
-        Err(fault) => Err(fault),
+    [ThreadCache::empty(); MOST_WORKERS]
+}
+
+// The same with a cache for each worker.
+fn parse_with<R: Threads + Sync, G: Gate + Sync>(
+    rt: &R,
+    alloc: Global,
+    input: &Input,
+    gate: &G,
+    arena: Arena,
+    caches: &mut [ThreadCache],
+) -> Result<(Arena, Vec<MsgRef>), (Fault, Side)>
+    requires small { IsSmall input.now.types input.now.root input.now.frames input.now.workers }
+    requires owners { arena.owners ≡ [] }
+    requires caches { AreEmpty caches.old }
+    requires count { length caches.old ≡ input.now.workers }
+    ensures leaves { IfOk result (λ r. LeavesSide input.now.workers input.now.frames None arena (Side.Sole r.0)) }
+    ensures stand { IfOk result (λ r. StandDecoded input.now.types (arena_places r.0) (arena_buffers r.0) input.now.root input.now.frames r.1.items) }
+    ensures sound { IfOk result (λ _. bad_payload input.now.types input.now.root input.now.frames ≡ None) }
+    ensures early { IfOk result (λ r. AreEarly input.now.workers r.0 r.1.items) }
+    ensures count { IfOk result (λ r. length r.1.items ≡ length input.now.frames) }
+    ensures left { IfErr result (λ e. LeavesSide input.now.workers input.now.frames (Some e.0) arena e.1) }
+    ensures kind { IfErr result (λ e. IsOfPayloads e.0) }
+    ensures limits { IfErr result (λ e. IsLimited e.0) }
+    ensures fault { IfErr result (λ e. (e.0 ≡ Fault.NoMemory) ⊎ (option_map bad_frame (bad_payload input.now.types input.now.root input.now.frames) ≡ Some e.0)) }
+{
+    let _life = arena.life();
+    let count = input.frames.count();
+    let (side, parsed) = parse_phase(
+        rt,
+        alloc,
+        arena,
+        caches,
+        &input.frames,
+        0,
+        count,
+        &input.types,
+        input.root,
+        gate,
+    );
+    match parsed {
+        Ok(messages) => match side {
+            Side::Sole(arena) => Ok((arena, messages)),
+            Side::Unsettled(_, _) => unreachable!(),
+        },
+        Err(end) => Err((fault_of_end(end), side)),
     }
 }
 
-// Room for so many messages, so that it never grows.
-fn room_for_messages(alloc: Global, count: u32) -> Result<Vec<MsgRef>, Fault>
-    ensures empty { IfOk result (λ messages. messages.items ≡ []) }
-    ensures no_memory { IfErr result (λ end. end ≡ Fault.NoMemory) }
+// The fault of a run whose phase ended so. No file of 2^24 bytes asks for so many blocks that they are spent.
+fn fault_of_end(end: PoolEnd) -> Fault
+    ensures bad { (index : _) (fault : _) → end ≡ PoolEnd.BadFrame index fault → result ≡ Fault.BadFrame index fault }
+    ensures other { ((index : _) (fault : _) → end ≡ PoolEnd.BadFrame index fault → ⊥) → result ≡ Fault.NoMemory }
+    ensures kind { IsOfPayloads result }
+    ensures limits { IsLimited result }
 {
-    Vec::with_capacity(alloc, count as usize).map_err(|_| Fault::NoMemory)
+    match end {
+        PoolEnd::BadFrame { index, fault } => Fault::BadFrame { index, fault },
+        PoolEnd::Done | PoolEnd::NoMemory | PoolEnd::BlocksSpent { .. } => Fault::NoMemory,
+    }
 }

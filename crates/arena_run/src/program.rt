@@ -1,72 +1,83 @@
-// The top call, and the outcome of a run.
-ghost use Rattle.std.specs.Prelude.{◌≡◌, ◌⊎◌, ◌*◌, ◌^◌, ◌<◌, ◌≤◌, ℕ, List, [], None, Some, Ok, length, map, IfOk, IfErr, IfSome, IfNone};
+// The top call.
+ghost use Rattle.std.specs.Prelude.{◌≡◌, ◌≢◌, ◌⊎◌, ◌^◌, ◌<◌, ◌≤◌, ℕ, List, [], None, Some, Ok, length, vec_capacity, map, IfOk, IfErr, IfSome, IfNone};
 ghost use Rattle.std.specs.String.{string_bytes};
 ghost use Rattle.std.specs.Io.KnownBytes.{Appends};
 ghost use Rattle.arena_mem.specs.declared.place.Place.{Place};
-ghost use Rattle.arena_mem.specs.Places.{Apart, IsLive};
+ghost use Rattle.arena_mem.specs.Places.{Apart};
 ghost use Rattle.arena_mem.specs.Outside.{Rose, TookPart, content_of};
-ghost use Rattle.serial_arena.specs.Serial.{places_of, buffers_of, IsUnused};
-ghost use Rattle.serial_arena.specs.Key.{key_of};
+ghost use Rattle.ts_arena.specs.Arena.{IsArena};
+ghost use Rattle.ts_arena.specs.Places.{IsPlaceOf};
+ghost use Rattle.ts_arena.specs.Sole.{Owns, arena_places, arena_buffers};
+ghost use Rattle.parse_pool.specs.Arenas.{IfSole};
+ghost use Rattle.pb_script.specs.Registers.{cat_registers};
 ghost use Rattle.pb_schema.specs.declared.schema.Schema.{Schema};
-ghost use Rattle.pb_schema.specs.Frames.{frames_of};
-ghost use Rattle.pb_schema.specs.Lawful.{Lawful};
 ghost use Rattle.pb_schema.specs.Payloads.{framed_texts};
-ghost use Rattle.pb_schema.specs.Tree.{Tree};
-ghost use Rattle.arena_run.specs.Causes.{EndsByWords, EndsByFile, GrowsByFile, AreFew, most_made};
-ghost use Rattle.arena_run.specs.Contents.{OfContent, OfTrees};
-ghost use Rattle.arena_run.specs.Ends.{IsLimited, status_of, IsParsed, IsUnparsed, IsUnplaced, EndsWell, result_fault};
+ghost use Rattle.arena_run.specs.Causes.{EndsByWords, EndsByFile, LeavesArena};
+ghost use Rattle.arena_run.specs.Contents.{OfTrees};
+ghost use Rattle.arena_run.specs.Ends.{IsLimited, status_of, IsParsed, IsUnparsed, IsPastFrames, EndsBy, EndsWell};
 ghost use Rattle.arena_run.specs.declared.fault.Fault.{Fault as TheFault};
 ghost use Rattle.arena_run.specs.FaultTexts.{IsTold};
-ghost use Rattle.arena_run.specs.Faults.{first_fault};
-ghost use Rattle.arena_run.specs.Sets.{IsGiven, set_given};
-ghost use Rattle.arena_run.specs.Stands.{StandApart, StandShort, StandWritten};
-ghost use Rattle.arena_run.specs.Frames.{EndsByFrames, GrowsByFrames, StandsRead};
-ghost use Rattle.arena_run.specs.Words.{HasNoType, IsCat, IsTypeOf, IsTyped};
+ghost use Rattle.arena_run.specs.Faults.{first_fault, payloads_fault};
+ghost use Rattle.arena_run.specs.Inputs.{IsSmall, LeavesSide};
+ghost use Rattle.arena_run.specs.Lines.{TookLines};
+ghost use Rattle.arena_run.specs.Lives.{CanEnd, HeapsFit};
+ghost use Rattle.arena_run.specs.Registers.{AreEarlyIn, CanRun, HasWritten, RegistersStand, RegistersWritten};
+ghost use Rattle.arena_run.specs.Sets.{set_given};
+ghost use Rattle.arena_run.specs.Stands.{StandDecoded};
+ghost use Rattle.arena_run.specs.Words.{AsksFor, IsCat, IsTypeOf};
 
 use crate::fault::Fault;
-use crate::input::read_frames_file;
-use crate::parse::parse_frames;
-use crate::set::read_types;
+use crate::gather::{Input, gather};
+use crate::outcome::Outcome;
+use crate::parse::parse_input;
+use crate::registers::{fill_registers, room_for_registers};
 use crate::tell::tell_end;
-use crate::words::cat_words;
-use crate::write::write_messages;
-use arena_mem::{Files, Memory, Sink};
+use crate::write::{Written, write_arena};
+use arena_mem::{Files, Sink};
+use cleanup_list::CleanupWatch;
 use dyn_message::MsgRef;
-use msg_layout::tables::Layouts;
-use pb_schema::Name;
-use serial_arena::{SerialArena, places_lie_apart};
+use life_ids::IdSource;
+use parse_pool::Gate;
+use pb_script::Register;
 use std::alloc::Global;
+use std::thread::Threads;
+use ts_arena::{Arena, Side, arenas_are_lawful, placements_lie_apart};
 
-/// What a run leaves: its status with the fault behind it, the messages by register, and the arena that they stand in.
+/// The two arenas that a run is handed.
 #[derive(Drop)]
-pub struct Outcome {
-    pub status: u8,
-    pub fault: Option<Fault>,
-    pub registers: Vec<MsgRef>,
-    pub arena: SerialArena,
+pub struct Pair {
+    pub a: Arena,
+    pub b: Arena,
 }
 
-/// Runs the program with these words over the files, the sinks and the arena that are handed in.
+/// Runs the program with these words over the files, the sinks and the arenas that are handed in.
 ///
 /// The words have one of three forms: `cat SET TYPE FRAMES WORKERS`, `run SET TYPE FRAMES SCRIPT WORKERS` and
-/// `gen SEED COUNT WORKERS`; all others are a `Usage`. So far one command is built: `cat SET TYPE FRAMES 1` parses
-/// each frame of the file into the arena as a message of the type, in order, and writes each message behind its prefix, as
-/// the encoding guide has it: its fields by ascending number, and then the bytes of all records that fit no field. The
-/// other commands are refused as `NotBuilt`. SET is the word `builtin`, which never names a file, or the name of a file
-/// with a descriptor set; one that can't be read is a `ReadFault`, one of more than 2^22 bytes a `TooLong`, and one that
-/// isn't taken a `Schema`. A type that the schema doesn't have is a `NoType`. FRAMES may be any name; a file that can't be
-/// read is a `ReadFault`, one of more than 2^24 bytes or 2^20 frames a `TooLong`, one whose frames are cut a `FrameCut`,
-/// and one in which a payload has a fault a `BadFrame`. What is said of a file's content or of the bytes that were taken
-/// holds where the files and the sink tell them. The text of a fault goes to the second sink, `err`. It asks for an arena in which nothing was placed and nothing is kept.
-pub fn run<F: Files, O: Sink, E: Sink>(
+/// `gen SEED COUNT WORKERS`; all others are a `Usage`. So far one command is built: `cat` parses each frame of the file into
+/// arena a as a message of the type, by 1 to 64 workers, and writes each message behind its prefix, in order, as the encoding
+/// guide has it: its fields by ascending number, and then the bytes of all records that fit no field. The other commands are
+/// refused as `NotBuilt`. SET is the word `builtin`, which never names a file, or the name of a file with a descriptor set;
+/// one that can't be read is a `ReadFault`, one of more than 2^22 bytes a `TooLong`, and one that isn't taken a `Schema`. A type
+/// that the schema doesn't have is a `NoType`. FRAMES may be any name; a file that can't be read is a `ReadFault`, one of more
+/// than 2^24 bytes or 2^20 frames a `TooLong`, one whose frames are cut a `FrameCut`, and one in which a payload has a fault a
+/// `BadFrame`. What is said of a file's content or of the bytes that were taken holds where the files and the sink tell them.
+/// The text of a fault goes to the second sink, `err`.
+///
+/// It asks for two arenas of the profile's policy that have no owners and adopted nothing, of different lives, and for 65,536
+/// ids that are all greater than both. A worker passes the gate before it parses a frame; no clause depends on what it does.
+pub fn run<R: Threads + Sync, F: Files, O: Sink, E: Sink, G: Gate + Sync, W: CleanupWatch>(
+    rt: &R,
     alloc: Global,
     words: &[String],
     files: &mut F,
     out: &mut O,
     err: &mut E,
-    mut arena: SerialArena,
+    gate: &G,
+    ids: &mut IdSource,
+    pair: Pair,
+    watch: &mut W,
 ) -> Outcome
-    requires { IsUnused arena }
+    requires { CanRun ids.old pair.a pair.b }
 
     // The status is that of the fault. Each fault but want of memory comes exactly where it is the first, by the words, by
     // the set, by the type or by the frames file, in the order of the stages of a run.
@@ -83,14 +94,15 @@ pub fn run<F: Files, O: Sink, E: Sink>(
     ensures write_fault { result.fault ≡ Some Fault.WriteFault → Rose (O.faults out.old) (O.faults out.new) }
     ensures sink_counts { O.faults out.old ≤ O.faults out.new }
 
-    // In both of these each register stands for the tree of its frame in the arena that is handed back, on feet of its
-    // own, each foot once, and no two places share a byte. On every other fault there are no registers.
-    ensures registers { IsParsed result.fault → OfTrees (map string_bytes words.now) (F.contents files.old) (λ schema type_no trees. StandApart schema (places_of result.arena) (buffers_of result.arena) type_no result.registers.items trees) }
-    ensures apart { (p q : Place) → IsLive (places_of result.arena) p → IsLive (places_of result.arena) q → (p ≡ q → ⊥) → Apart p q }
+    // In both of these each register stands for the tree of its frame in arena a, on feet of its own, each foot once; the
+    // first ones, one for each worker, stand in the parts of the callers of their numbers. On every other fault there are
+    // no registers.
+    ensures registers { IsParsed result.fault → OfTrees (map string_bytes words.now) (F.contents files.old) (λ schema type_no trees. IfSole result.a (λ a. RegistersStand schema a type_no result.registers.items trees)) }
+    ensures early { IsParsed result.fault → (workers : ℕ) → AsksFor (map string_bytes words.now) workers → IfSole result.a (λ a. AreEarlyIn workers a result.registers.items) }
     ensures no_registers { IsUnparsed result.fault → result.registers.items ≡ [] }
 
     // Whatever the files tell, the registers stand for one list of trees, and what the sink took is the text of these.
-    ensures stand { IsParsed result.fault → StandWritten (map string_bytes words.now) (F.contents files.old) (places_of result.arena) (buffers_of result.arena) result.registers.items result.fault (O.taken out.old) (O.taken out.new) }
+    ensures stand { IsParsed result.fault → IfSole result.a (λ a. RegistersWritten (map string_bytes words.now) (F.contents files.old) a result.registers.items result.fault result.lines (O.taken out.old) (O.taken out.new)) }
 
     // A file without a fault that is there, of a type that the set has, ends well, or in want of memory, where nothing failed.
     ensures complete { (set type_name frames content : List ℕ) (schema : Schema) (type_no : ℕ) → IsCat (map string_bytes words.now) set type_name frames
@@ -103,21 +115,53 @@ pub fn run<F: Files, O: Sink, E: Sink>(
     ensures untold { result.fault ≡ None → err.new ≡ err.old }
     ensures told { (fault : TheFault) → result.fault ≡ Some fault → IsTold fault (E.taken err.old) (E.taken err.new) (E.faults err.old) (E.faults err.new) }
 
-    // The arena keeps its owner, life, region and policy. It is as it was handed in where no payload was parsed. On
-    // whatever fault it has at most 4 places for each byte of a payload and each frame, and as many kept buffers.
-    ensures key { key_of result.arena ≡ key_of arena }
-    ensures unplaced { IsUnplaced result.fault → result.arena ≡ arena }
-    ensures few { OfContent (map string_bytes words.now) (F.contents files.old) (λ schema type_no content. IfOk (frames_of content) (λ payloads. AreFew (most_made payloads) (places_of result.arena) (buffers_of result.arena))) }
-    ensures few_of_any { AreFew (4 * 2 ^ 24) (places_of result.arena) (buffers_of result.arena) }
+    // Arena a keeps its life, its policy and its adopted regions, and is settled on every answer but want of memory. It is as
+    // it was handed in where no payload was parsed. Its owners are some of the callers below the number of workers, and it has
+    // at most 4 places for each byte of a payload and each frame, and as many kept buffers. Arena b is as it was handed in.
+    // Both are lawful, and no two places of arena a share a byte.
+    ensures arena { LeavesArena (map string_bytes words.now) (F.contents files.old) result.fault pair.a result.a }
+    ensures other { result.b ≡ Side.Sole pair.b }
+    ensures lawful { IfSole result.a IsArena × IsArena pair.b }
+    ensures apart { IfSole result.a (λ a. (p q : Place) → IsPlaceOf a p → IsPlaceOf a q → (p ≡ q → ⊥) → Apart p q) }
+
+    // The outcome can be ended.
+    ensures ends { CanEnd result.registers.items result.a result.b }
+
+    // No life ended: no id was drawn, and no cleanup was run. A line for each register was accepted where all was written,
+    // and none where nothing was; where the sink failed, one for each text that lies whole in what it took.
+    ensures ended { result.ended.items ≡ [] }
+    ensures ids { ids.new ≡ ids.old }
+    ensures watch { watch.new ≡ watch.old }
+    ensures lines { IfNone result.fault (result.lines ≡ length result.registers.items) }
+    ensures cut_lines { result.fault ≡ Some Fault.WriteFault → OfTrees (map string_bytes words.now) (F.contents files.old) (λ schema type_no trees. TookLines schema type_no trees (O.taken out.old) (O.taken out.new) result.lines) }
+    ensures no_lines { IsUnparsed result.fault → result.lines ≡ 0 }
 {
-    let (fault, registers) = cat(alloc, words, files, out, &mut arena);
-    tell_end(&fault, err);
-    places_lie_apart(&arena);
+    let Pair { a, b } = pair;
+    let _lives = (b.life(), ids.left());
+    let end = cat(rt, alloc, words, files, out, gate, a);
+    let _ = watch;
+    tell_end(&end.fault, err);
+    sides_are_lawful(&end.a);
+    arenas_are_lawful(&b);
     Outcome {
-        status: status_of_fault(&fault),
-        fault,
-        registers,
-        arena,
+        status: status_of_fault(&end.fault),
+        fault: end.fault,
+        registers: end.registers,
+        a: end.a,
+        b: Side::Sole(b),
+        ended: Vec::new(alloc),
+        lines: end.lines,
+    }
+}
+
+// What is so of every side: its arena is lawful, where it is settled, and no two places of it share a byte.
+fn sides_are_lawful(side: &Side)
+    ensures lawful { IfSole side.now IsArena }
+    ensures apart { IfSole side.now (λ a. (p q : Place) → IsPlaceOf a p → IsPlaceOf a q → (p ≡ q → ⊥) → Apart p q) }
+{
+    if let Side::Sole(arena) = side {
+        arenas_are_lawful(arena);
+        placements_lie_apart(arena);
     }
 }
 
@@ -131,102 +175,131 @@ fn status_of_fault(fault: &Option<Fault>) -> u8
     }
 }
 
-// The number of the type of that name.
-fn find_type(alloc: Global, types: &Layouts, type_name: &str) -> Result<u32, Fault>
-    ensures found { IfOk result (IsTypeOf types.now type_name.now) }
-    ensures none { IfErr result (λ fault. (fault ≡ Fault.NoMemory) ⊎ ((fault ≡ Fault.NoType type_name.now) × HasNoType types.now type_name.now)) }
-    ensures limits { IfErr result IsLimited }
-{
-    if let Some(type_no) = types.schema().find(type_name) {
-        return Ok(type_no);
-    }
-    match Name::of(alloc, type_name) {
-        Ok(name) => Err(Fault::NoType { name }),
-        Err(_) => Err(Fault::NoMemory),
-    }
-}
-
-// The messages of a frames file, and the layouts of their types.
+// What the command leaves.
 #[derive(Drop)]
-struct Parsed {
-    types: Layouts,
-    messages: Vec<MsgRef>,
+struct CatEnd {
+    fault: Option<Fault>,
+    registers: Vec<Register>,
+    a: Side,
+    lines: u32,
 }
 
-// Reads the frames file of that name, and parses each frame into a message of the type.
-fn read_of_type<F: Files, M: Memory>(
-    alloc: Global,
-    types: &Layouts,
-    type_no: u32,
-    frames: &str,
-    files: &mut F,
-    mem: &mut M,
-) -> Result<Vec<MsgRef>, Fault>
-    requires { type_no < length types.now.types }
-    ensures limits { IfErr result IsLimited }
-    ensures by_frames { EndsByFrames F.contents F.faults F.blamed types.now type_no frames.now files.old files.new (result_fault result) }
-    ensures memory { GrowsByFrames M.key M.places M.buffers M.blocks (content_of (F.contents files.old) frames.now) (result_fault result) mem.old mem.new }
-    ensures stand { IfOk result (λ messages. StandsRead types.now (M.places mem.new) (M.buffers mem.new) (content_of (F.contents files.old) frames.now) type_no messages.items) }
-{
-    let Ok(name) = String::from_str(alloc, frames) else {
-        return Err(Fault::NoMemory);
-    };
-    let frames = read_frames_file(alloc, files, name)?;
-    parse_frames(alloc, mem, types, type_no, &frames)
-}
-
-// Reads and parses the frames file that the words name, by the set that they name.
-fn read_messages<F: Files, M: Memory>(
-    alloc: Global,
-    words: &[String],
-    files: &mut F,
-    mem: &mut M,
-) -> Result<Parsed, Fault>
-    ensures by_words { EndsByWords (map string_bytes words.now) (result_fault result) }
-    ensures by_file { EndsByFile F.contents F.faults F.blamed (map string_bytes words.now) files.old files.new (result_fault result) }
-    ensures limits { IfErr result IsLimited }
-    ensures memory { GrowsByFile M.key M.places M.buffers M.blocks (map string_bytes words.now) (F.contents files.old) (result_fault result) mem.old mem.new }
-    ensures unparsed { IfErr result (λ fault. IsUnparsed (Some fault)) }
-    ensures lawful { IfOk result (λ parsed. Lawful parsed.types) }
-    ensures given { IfOk result (λ parsed. IsGiven (map string_bytes words.now) (F.contents files.old) parsed.types) }
-    ensures trees { IfOk result (λ parsed. OfTrees (map string_bytes words.now) (F.contents files.old) (λ schema type_no trees. StandShort schema (M.places mem.new) (M.buffers mem.new) type_no parsed.messages.items trees)) }
-    ensures stand { IfOk result (λ parsed. (type_no : ℕ) × (trees : List Tree) × IsTyped (map string_bytes words.now) parsed.types type_no × StandShort parsed.types (M.places mem.new) (M.buffers mem.new) type_no parsed.messages.items trees) }
-{
-    let named = cat_words(words)?;
-    let types = read_types(alloc, named.set, files)?;
-    let type_no = find_type(alloc, &types, named.type_name)?;
-    match read_of_type(alloc, &types, type_no, named.frames, files, mem) {
-        Ok(messages) => Ok(Parsed { types, messages }),
-        Err(fault) => Err(fault),
-    }
-}
-
-// Runs the command over any memory, and answers the messages where the frames file was parsed.
-fn cat<F: Files, O: Sink, M: Memory>(
+// Runs the command.
+fn cat<R: Threads + Sync, F: Files, O: Sink, G: Gate + Sync>(
+    rt: &R,
     alloc: Global,
     words: &[String],
     files: &mut F,
     out: &mut O,
-    mem: &mut M,
-) -> (Option<Fault>, Vec<MsgRef>)
-    ensures by_words { EndsByWords (map string_bytes words.now) result.0 }
-    ensures by_file { EndsByFile F.contents F.faults F.blamed (map string_bytes words.now) files.old files.new result.0 }
-    ensures limits { IfSome result.0 IsLimited }
-    ensures memory { GrowsByFile M.key M.places M.buffers M.blocks (map string_bytes words.now) (F.contents files.old) result.0 mem.old mem.new }
-    ensures trees { IsParsed result.0 → OfTrees (map string_bytes words.now) (F.contents files.old) (λ schema type_no trees. StandApart schema (M.places mem.new) (M.buffers mem.new) type_no result.1.items trees) }
-    ensures bytes { IfNone result.0 (OfTrees (map string_bytes words.now) (F.contents files.old) (λ schema type_no trees. Appends (O.taken out.old) (O.taken out.new) (framed_texts schema type_no trees))) }
-    ensures prefix { result.0 ≡ Some Fault.WriteFault → OfTrees (map string_bytes words.now) (F.contents files.old) (λ schema type_no trees. TookPart (O.taken out.old) (O.taken out.new) (framed_texts schema type_no trees)) }
-    ensures stand { IsParsed result.0 → StandWritten (map string_bytes words.now) (F.contents files.old) (M.places mem.new) (M.buffers mem.new) result.1.items result.0 (O.taken out.old) (O.taken out.new) }
-    ensures no_registers { IsUnparsed result.0 → result.1.items ≡ [] }
-    ensures nothing_written { IsUnparsed result.0 → out.new ≡ out.old }
-    ensures write_fault { result.0 ≡ Some Fault.WriteFault → Rose (O.faults out.old) (O.faults out.new) }
+    gate: &G,
+    arena: Arena,
+) -> CatEnd
+    requires { arena.owners ≡ [] }
+    ensures by_words { EndsByWords (map string_bytes words.now) result.fault }
+    ensures by_file { EndsByFile F.contents F.faults F.blamed (map string_bytes words.now) files.old files.new result.fault }
+    ensures limits { IfSome result.fault IsLimited }
+    ensures arena { LeavesArena (map string_bytes words.now) (F.contents files.old) result.fault arena result.a }
+    ensures registers { IsParsed result.fault → OfTrees (map string_bytes words.now) (F.contents files.old) (λ schema type_no trees. IfSole result.a (λ a. RegistersStand schema a type_no result.registers.items trees)) }
+    ensures early { IsParsed result.fault → (workers : ℕ) → AsksFor (map string_bytes words.now) workers → IfSole result.a (λ a. AreEarlyIn workers a result.registers.items) }
+    ensures bytes { IfNone result.fault (OfTrees (map string_bytes words.now) (F.contents files.old) (λ schema type_no trees. Appends (O.taken out.old) (O.taken out.new) (framed_texts schema type_no trees))) }
+    ensures prefix { result.fault ≡ Some Fault.WriteFault → OfTrees (map string_bytes words.now) (F.contents files.old) (λ schema type_no trees. TookPart (O.taken out.old) (O.taken out.new) (framed_texts schema type_no trees)) }
+    ensures stand { IsParsed result.fault → IfSole result.a (λ a. RegistersWritten (map string_bytes words.now) (F.contents files.old) a result.registers.items result.fault result.lines (O.taken out.old) (O.taken out.new)) }
+    ensures no_registers { IsUnparsed result.fault → result.registers.items ≡ [] }
+    ensures heaps { HeapsFit result.registers.items }
+    ensures nothing_written { IsUnparsed result.fault → out.new ≡ out.old }
+    ensures write_fault { result.fault ≡ Some Fault.WriteFault → Rose (O.faults out.old) (O.faults out.new) }
     ensures sink_counts { O.faults out.old ≤ O.faults out.new }
+    ensures lines { IfNone result.fault (result.lines ≡ length result.registers.items) }
+    ensures cut_lines { result.fault ≡ Some Fault.WriteFault → OfTrees (map string_bytes words.now) (F.contents files.old) (λ schema type_no trees. TookLines schema type_no trees (O.taken out.old) (O.taken out.new) result.lines) }
+    ensures no_lines { IsUnparsed result.fault → result.lines ≡ 0 }
 {
-    match read_messages(alloc, words, files, mem) {
-        Ok(parsed) => match write_messages(mem, &parsed.types, &parsed.messages, out) {
-            Ok(()) => (None, parsed.messages),
-            Err(_) => (Some(Fault::WriteFault), parsed.messages),
-        },
-        Err(fault) => (Some(fault), Vec::new(alloc)),
+    match gather(alloc, words, files) {
+        Ok(input) => cat_input(rt, alloc, &input, out, gate, arena),
+        Err(fault) => without_registers(alloc, fault, Side::Sole(arena)),
+    }
+}
+
+// Parses the frames and writes the messages.
+fn cat_input<R: Threads + Sync, O: Sink, G: Gate + Sync>(
+    rt: &R,
+    alloc: Global,
+    input: &Input,
+    out: &mut O,
+    gate: &G,
+    arena: Arena,
+) -> CatEnd
+    requires small { IsSmall input.now.types input.now.root input.now.frames input.now.workers }
+    requires owners { arena.owners ≡ [] }
+    ensures stage { IsPastFrames result.fault }
+    ensures first { EndsBy (payloads_fault input.now.types input.now.root input.now.frames) result.fault }
+    ensures limits { IfSome result.fault IsLimited }
+    ensures left { LeavesSide input.now.workers input.now.frames result.fault arena result.a }
+    ensures written { IsParsed result.fault → IfSole result.a (λ a. HasWritten input.now.types input.now.root input.now.frames a result.registers.items result.fault result.lines (O.taken out.old) (O.taken out.new)) }
+    ensures early { IsParsed result.fault → IfSole result.a (λ a. AreEarlyIn input.now.workers a result.registers.items) }
+    ensures no_registers { IsUnparsed result.fault → result.registers.items ≡ [] }
+    ensures heaps { HeapsFit result.registers.items }
+    ensures nothing_written { IsUnparsed result.fault → out.new ≡ out.old }
+    ensures write_fault { result.fault ≡ Some Fault.WriteFault → Rose (O.faults out.old) (O.faults out.new) }
+    ensures sink_counts { O.faults out.old ≤ O.faults out.new }
+    ensures lines { IfNone result.fault (result.lines ≡ length result.registers.items) }
+    ensures no_lines { IsUnparsed result.fault → result.lines ≡ 0 }
+{
+    let Ok(registers) = room_for_registers(alloc, input.frames.count()) else {
+        return without_registers(alloc, Fault::NoMemory, Side::Sole(arena));
+    };
+    match parse_input(rt, alloc, input, gate, arena) {
+        Ok((arena, messages)) => write_out(input, messages, registers, out, arena),
+        Err((fault, side)) => without_registers(alloc, fault, side),
+    }
+}
+
+// Writes the messages, and makes the registers of them.
+fn write_out<O: Sink>(
+    input: &Input,
+    messages: Vec<MsgRef>,
+    mut registers: Vec<Register>,
+    out: &mut O,
+    mut arena: Arena,
+) -> CatEnd
+    requires room { (registers.items ≡ []) × (length messages.items ≤ vec_capacity registers) }
+    requires few { length messages.items ≤ 2 ^ 20 }
+    requires owner { 0 < length messages.items → Owns arena.owners 0 }
+    requires stand { StandDecoded input.now.types (arena_places arena) (arena_buffers arena) input.now.root input.now.frames messages.items }
+    ensures parsed { IsParsed result.fault }
+    ensures limits { IfSome result.fault IsLimited }
+    ensures side { result.a ≡ Side.Sole arena }
+    ensures registers { result.registers.items ≡ cat_registers messages.items }
+    ensures heaps { HeapsFit result.registers.items }
+    ensures written { HasWritten input.now.types input.now.root input.now.frames arena result.registers.items result.fault result.lines (O.taken out.old) (O.taken out.new) }
+    ensures write_fault { result.fault ≡ Some Fault.WriteFault → Rose (O.faults out.old) (O.faults out.new) }
+    ensures sink_counts { O.faults out.old ≤ O.faults out.new }
+    ensures lines { IfNone result.fault (result.lines ≡ length messages.items) }
+{
+    let Written { ended, lines } = write_arena(&mut arena, &input.types, &messages, out);
+    fill_registers(&messages, &mut registers);
+    let fault = match ended {
+        Ok(()) => None,
+        Err(_) => Some(Fault::WriteFault),
+    };
+    CatEnd {
+        fault,
+        registers,
+        a: Side::Sole(arena),
+        lines,
+    }
+}
+
+// The end of a command that wrote nothing.
+fn without_registers(alloc: Global, fault: Fault, side: Side) -> CatEnd
+    ensures fault { result.fault ≡ Some fault }
+    ensures registers { result.registers.items ≡ [] }
+    ensures side { result.a ≡ side }
+    ensures lines { result.lines ≡ 0 }
+{
+    CatEnd {
+        fault: Some(fault),
+        registers: Vec::new(alloc),
+        a: side,
+        lines: 0,
     }
 }

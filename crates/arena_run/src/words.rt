@@ -3,7 +3,7 @@ ghost use Rattle.std.specs.Prelude.{◌≡◌, ◌+◌, ◌^◌, ◌<◌, ◌≤
 ghost use Rattle.std.specs.String.{string_bytes};
 ghost use Rattle.arena_run.specs.Ends.{IsLimited, IsOfWords};
 ghost use Rattle.arena_run.specs.Causes.{EndsByWords};
-ghost use Rattle.arena_run.specs.Words.{number_in, Spells, IsNumber, HasNoForm, IsReadFrom, IsCat};
+ghost use Rattle.arena_run.specs.Words.{number_in, Spells, IsNumber, HasNoForm, IsReadFrom, IsCat, AsksFor};
 
 use crate::command::Command;
 use crate::fault::Fault;
@@ -17,17 +17,20 @@ const MOST_SEED: u64 = 4294967295;
 /// The greatest count of frames that are made, which has five digits.
 const MOST_COUNT: u64 = 65535;
 
-/// The words of the command that is built: the set, the name of a type, and that of a frames file.
+/// The words of the command that is built: the set, the name of a type, that of a frames file, and how many workers there
+/// are to be.
 #[derive(Clone, Copy, Debug, PartialEq, Eq)]
 pub struct CatWords<'a> {
     pub set: &'a str,
     pub type_name: &'a str,
     pub frames: &'a str,
+    pub workers: u8,
 }
 
-/// The set, the type and the frames file, where the words are those of the command that is built.
+/// The set, the type, the frames file and the number of workers, where the words are those of the command that is built.
 pub fn cat_words(words: &[String]) -> Result<CatWords<'_>, Fault>
     ensures built { IfOk result (λ found. IsCat (map string_bytes words.now) found.set.now found.type_name.now found.frames.now) }
+    ensures workers { IfOk result (λ found. AsksFor (map string_bytes words.now) found.workers) }
     ensures by_words { IfErr result (λ fault. EndsByWords (map string_bytes words.now) (Some fault)) }
     ensures kind { IfErr result (λ fault. IsOfWords (Some fault)) }
     ensures limits { IfErr result IsLimited }
@@ -41,17 +44,12 @@ pub fn cat_words(words: &[String]) -> Result<CatWords<'_>, Fault>
             type_name,
             frames,
             workers,
-        } => {
-            if workers == 1 {
-                Ok(CatWords {
-                    set,
-                    type_name,
-                    frames,
-                })
-            } else {
-                Err(Fault::NotBuilt)
-            }
-        }
+        } => Ok(CatWords {
+            set,
+            type_name,
+            frames,
+            workers,
+        }),
         Command::Run { .. } => Err(Fault::NotBuilt),
         Command::Gen { .. } => Err(Fault::NotBuilt),
     }

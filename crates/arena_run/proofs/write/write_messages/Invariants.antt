@@ -2,7 +2,8 @@ use Rattle.std.proofs.Common.{◌≤◌, ℕ, List, [], drop}
 use Rattle.arena_mem.specs.Outside.{KeepsTaken}
 use Rattle.pb_schema.specs.Payloads.{framed_texts}
 use Rattle.pb_schema.specs.Tree.{Tree}
-use Rattle.pb_write.specs.Waiting.{waiting_in}
+use Rattle.pb_write.specs.Waiting.{counted_in, waiting_in}
+use Rattle.pb_write.specs.Writes.{Counts}
 use Rattle.pb_write.proofs.Writing.{IsWritten}
 use Rattle.arena_run.specs.Stands.{StandShort}
 use Rattle.arena_run.proofs.write.write_messages.Given as goal
@@ -17,4 +18,5 @@ invariant-loop-message g l =
           → IsWritten (O.taken l.fn.out) [] (O.taken l.out) (waiting_in l.rooms) (framed_texts l.types type_no trees) (framed_texts l.types type_no (drop l.message-index trees));
       kept : KeepsTaken (O.taken l.fn.out) (O.taken l.out);
       faults : O.faults l.fn.out ≤ O.faults l.out;
+      counted : Counts (O.taken l.fn.out) (O.taken l.out) (counted_in l.fn.rooms) (counted_in l.rooms);
     }
