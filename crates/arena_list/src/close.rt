@@ -1,9 +1,9 @@
 //! A list is closed: all seats are joined into one, and each value goes from its slot to its entry.
-ghost use Rattle.std.specs.Prelude.{◌≡◌, ℕ, ◌+◌, ◌<◌, ◌≤◌, ◌++◌, ◌∷◌, [], false, length, map, reverse, slice_index_or, vec_capacity, IfOk, IfErr, None};
+ghost use Rattle.std.specs.Prelude.{◌≡◌, ◌≢◌, ℕ, ◌+◌, ◌<◌, ◌≤◌, ◌++◌, ◌∷◌, [], false, length, map, reverse, slice_index_or, vec_capacity, IfOk, IfErr, None};
 ghost use Rattle.std.specs.Slots.{slots_items, slots_filled, slots_len, IsFull};
 ghost use mathlib.Core.Option.{some};
 ghost use lib.ListN.{get_elem?};
-ghost use Rattle.arena_list.specs.Words.Written.{word_count};
+ghost use Rattle.arena_list.specs.Words.Written.{value_at, value_count, word_count};
 ghost use Rattle.arena_list.specs.Words.Core.{slot_count};
 ghost use Rattle.arena_list.specs.Rule.Founded.{meter};
 ghost use Rattle.arena_list.specs.Rule.Views.{shown};
@@ -13,7 +13,7 @@ ghost use Rattle.arena_list.specs.Closing.Closed.{HasTold, AreAll, AreApart, Are
 use crate::collect::{place_others, pull_linked, pull_spares};
 use crate::entry::Entry;
 use crate::list::{ArenaList, ListSeat, OwnSeat, Words};
-use crate::single_steps::SLOTS;
+use crate::single_steps::{SLOTS, SPACING};
 use crate::step_kinds::Gather;
 use arena_mem::{NoMemory, Part};
 use atomic_table::Closed;
@@ -94,18 +94,24 @@ fn gather<V: Part>(
     all
 }
 
-/// Takes the values out of all slots of a closed table, in order.
+/// Takes the values out of all places of a closed table, those of the slots in order. The places between are empty.
 fn empty<V: Part>(closed: &mut Closed<Option<V>, Global>, parts: &mut Vec<Option<V>>)
-    requires full { IsFull closed.old.slots × (slots_len closed.old.slots ≡ slot_count) }
+    requires full { IsFull closed.old.slots × (slots_len closed.old.slots ≡ value_count) }
+    requires between { (place : ℕ) (x : _) → get_elem? (slots_items closed.old.slots) place ≡ some x → ((slot : ℕ) → place ≢ value_at slot) → x ≡ None }
     requires room { (parts.old.items ≡ []) × (slot_count ≤ vec_capacity parts.old) }
-    ensures parts { (k : ℕ) (x : _) → get_elem? parts.new.items k ≡ some x → get_elem? (slots_items closed.old.slots) k ≡ some x }
+    ensures parts { (k : ℕ) (x : _) → get_elem? parts.new.items k ≡ some x → get_elem? (slots_items closed.old.slots) (value_at k) ≡ some x }
     ensures count { length parts.new.items ≡ slot_count }
     ensures free { (k : ℕ) → k < slots_len closed.new.slots → slice_index_or (slots_filled closed.new.slots) k false ≡ false }
     ensures words { closed.new.words ≡ closed.old.words }
 {
-    for slot in 0..SLOTS {
-        if let Err(_) = parts.push(closed.take(slot)) {
-            unreachable!();
+    for place in 0..SLOTS * SPACING {
+        let value = closed.take(place);
+        if place % SPACING == 0 {
+            if let Err(_) = parts.push(value) {
+                unreachable!();
+            }
+        } else {
+            let None = value else { unreachable!() };
         }
     }
 }

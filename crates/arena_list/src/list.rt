@@ -1,6 +1,6 @@
 //! The list as its callers share it, and the seat with which one of them steps.
 ghost use Rattle.std.specs.Prelude.{◌≡◌, ◌<◌, ◌∷◌, [], length, map};
-ghost use Rattle.arena_list.specs.Words.Written.{word_count};
+ghost use Rattle.arena_list.specs.Words.Written.{value_count, word_count};
 ghost use Rattle.arena_list.specs.Words.Core.{slot_count};
 ghost use Rattle.arena_list.specs.Rule.Founded.{meter, others_of, slot, Differ};
 ghost use Rattle.arena_list.specs.Marks.OfParts.{marks};
@@ -39,7 +39,7 @@ pub struct ArenaList<V: Part> {
     pub(crate) table: Table<Option<V>, View<Mark>, Founding<V>, ListRule, Global>,
     // The linked entries of callers without a seat, oldest first. No step reaches their values.
     pub(crate) others: Vec<Entry<V>>,
-    ghost sized: { (table.shared.table_id.words ≡ word_count) × (table.shared.table_id.slots ≡ slot_count) },
+    ghost sized: { (table.shared.table_id.words ≡ word_count) × (table.shared.table_id.slots ≡ value_count) },
     ghost kept: { others.items ≡ others_of table.shared.key.linked.items table.shared.key.callers.items },
     ghost apart: { Differ (map slot others.items) },
     ghost called: { 0 < length table.shared.key.callers.items },

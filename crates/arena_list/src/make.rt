@@ -13,7 +13,7 @@ use crate::entry::Entry;
 use crate::for_clauses::founding::Founding;
 use crate::laying::opening_words;
 use crate::list::{ArenaList, ListSeat, OwnSeat, Words};
-use crate::single_steps::{HEAD, SLOTS};
+use crate::single_steps::{HEAD, SLOTS, SPACING};
 use crate::step_kinds::Deal;
 use crate::take_and_give::put;
 use arena_mem::{NoMemory, Part};
@@ -187,7 +187,7 @@ impl<V: Part> ArenaList<V> {
             spare: GhostList::of(spare.as_slice()),
             callers: GhostList::of(callers),
         };
-        let Ok((table, first)) = Table::vacant(alloc, &words, SLOTS, &told) else {
+        let Ok((table, first)) = Table::vacant(alloc, &words, SLOTS * SPACING, &told) else {
             others.destroy_empty();
             seats.destroy_empty();
             return Err((NoMemory, linked, spare));

@@ -27,8 +27,13 @@ pub(crate) const NODES: usize = 8;
 /// The word of the state of slot 0.
 pub(crate) const STATES: usize = 80;
 
-/// How many words the state of a slot stands behind that of the slot before, so that no two share a line of 64 bytes.
-pub(crate) const STRIDE: usize = 8;
+/// How many words the state of a slot stands behind that of the slot before: 128 bytes, so that no two share a line,
+/// nor two lines that are fetched together.
+pub(crate) const STRIDE: usize = 16;
+
+/// How many places the value of a slot stands behind that of the slot before. A boxed arena takes 16 bytes of its
+/// place, so that two are 128 bytes apart, too.
+pub(crate) const SPACING: usize = 8;
 
 /// What a word counts in its upper half.
 pub(crate) const SPAN: u64 = 1 << 32;

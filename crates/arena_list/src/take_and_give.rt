@@ -10,7 +10,7 @@ ghost use Rattle.arena_list.specs.Steps.Moments.{SeenTake, SeenGive};
 ghost use Rattle.arena_list.specs.Calls.Seats.{view, life_of, IsSeatOf, SameList, HasValue};
 
 use crate::list::{ArenaList, ListSeat, Words, take_up};
-use crate::single_steps::{STATES, STRIDE};
+use crate::single_steps::{SPACING, STATES, STRIDE};
 use crate::step_kinds::{Claim, Empty, Give, Take};
 use arena_mem::Part;
 
@@ -31,7 +31,7 @@ impl<V: Part> ArenaList<V> {
         let state = STATES + slot as usize * STRIDE;
         let mut own = take_up(&mut seat.badge);
         words.swap::<Take>(&mut own, state, 2 * seat.used);
-        let part = words.exchange(&mut own, slot as usize, None);
+        let part = words.exchange(&mut own, slot as usize * SPACING, None);
         words.load::<Empty>(&mut own, state);
         seat.badge = own.into_badge();
         match part {
@@ -74,7 +74,7 @@ pub(crate) fn put<V: Part>(words: &Words<V>, seat: &mut ListSeat, part: V)
     let used = part.used();
     let mut own = take_up(&mut seat.badge);
     words.load::<Claim>(&mut own, STATES + slot * STRIDE);
-    match words.exchange(&mut own, slot, Some(part)) {
+    match words.exchange(&mut own, slot * SPACING, Some(part)) {
         None => {}
         Some(_) => unreachable!(),
     }

@@ -10,7 +10,7 @@ use Rattle.atomic_table.specs.Table.{Step, step, Allows}
 use Rattle.arena_list.specs.declared.for_clauses.founding.Founding.{Founding}
 use Rattle.arena_list.specs.Words.Core.{slot_count}
 use Rattle.arena_list.specs.Words.Nodes.{node_word}
-use Rattle.arena_list.specs.Words.Written.{node_at, state_at}
+use Rattle.arena_list.specs.Words.Written.{node_at, state_at, value_at}
 use Rattle.arena_list.specs.Rule.Holds.{Holds}
 use Rattle.arena_list.specs.Steps.After.{IsOut, sized, looked, counted, joined, held, settled, noted, next_link, own_node, used_now, with_seat}
 use Rattle.arena_list.specs.Steps.Tales.{stored_node, took, emptied, claimed, gave, saw_size}
@@ -72,9 +72,9 @@ module _ {V : Type 0} where
   unfolding first_of
   same_value l slot y part other a b is = let found : Some part ≡ y = ap (first_of None) (sym a ∙ b) in cc
 
-  pub took_out : (m : Meter V) (part : V) (slot : ℕ) (me me' : Sat V) → me' ≡ (held me.0 (Moving (m.used part)), ((hand me.0).slot, Some part) ∷ me.1) → (hand me.0).slot ≡ slot → me.1 ≡ []
-      → me' ≡ (held me.0 (Moving (m.used part)), (slot, Some part) ∷ [])
-  took_out m part slot me me' is at free = is ∙ (λ i. (held me.0 (Moving (m.used part)), (at i, Some part) ∷ free i))
+  pub took_out : (m : Meter V) (part : V) (slot : ℕ) (me me' : Sat V) → me' ≡ (held me.0 (Moving (m.used part)), (value_at (hand me.0).slot, Some part) ∷ me.1) → (hand me.0).slot ≡ slot → me.1 ≡ []
+      → me' ≡ (held me.0 (Moving (m.used part)), (value_at slot, Some part) ∷ [])
+  took_out m part slot me me' is at free = is ∙ (λ i. (held me.0 (Moving (m.used part)), (value_at (at i), Some part) ∷ free i))
 
   used_with : (m : Meter V) (x : Hold V) → used_now m (with_seat x) ≡ used_now m x
   used_with m Vacant = refl
@@ -94,18 +94,18 @@ module _ {V : Type 0} where
   abbrev pub filling : Meter V → Sat V → View V
   filling m me = held me.0 (with_seat (hand me.0).hold)
 
-  pub gave_after : (m : Meter V) (st : Step (Option V)) (r slot : ℕ) (part : V) (me me' me'' : Sat V) → me' ≡ (filling m me, (slot, Some part) ∷ []) → slot ≡ (hand me.0).slot → gave m st me' r me'' → me'' ≡ (settled m me.0 part, [])
-  gave_after m st r slot part me me' me'' is at told = (told part [] (ap (λ (x : Sat V). x.1) is ∙ (λ i. (at i, Some part) ∷ []) ∙ ap (λ (x : Sat V). ((hand x.0).slot, Some part) ∷ []) (sym is))).0 ∙ ap (λ (x : Sat V). (settled m x.0 part, [])) is
+  pub gave_after : (m : Meter V) (st : Step (Option V)) (r slot : ℕ) (part : V) (me me' me'' : Sat V) → me' ≡ (filling m me, (value_at slot, Some part) ∷ []) → slot ≡ (hand me.0).slot → gave m st me' r me'' → me'' ≡ (settled m me.0 part, [])
+  gave_after m st r slot part me me' me'' is at told = (told part [] (ap (λ (x : Sat V). x.1) is ∙ (λ i. (value_at (at i), Some part) ∷ []) ∙ ap (λ (x : Sat V). (value_at (hand x.0).slot, Some part) ∷ []) (sym is))).0 ∙ ap (λ (x : Sat V). (settled m x.0 part, [])) is
 
   -- what was seen of the slot before is at most the value's used sum
-  pub gave_more : (m : Meter V) (st : Step (Option V)) (r slot : ℕ) (part : V) (me me' me'' : Sat V) → me' ≡ (filling m me, (slot, Some part) ∷ []) → slot ≡ (hand me.0).slot → gave m st me' r me'' → slice_index me.0.sizes (hand me.0).slot ≤ m.used part
-  gave_more m st r slot part me me' me'' is at told = let t = (told part [] (ap (λ (x : Sat V). x.1) is ∙ (λ i. (at i, Some part) ∷ []) ∙ ap (λ (x : Sat V). ((hand x.0).slot, Some part) ∷ []) (sym is))).1 in
+  pub gave_more : (m : Meter V) (st : Step (Option V)) (r slot : ℕ) (part : V) (me me' me'' : Sat V) → me' ≡ (filling m me, (value_at slot, Some part) ∷ []) → slot ≡ (hand me.0).slot → gave m st me' r me'' → slice_index me.0.sizes (hand me.0).slot ≤ m.used part
+  gave_more m st r slot part me me' me'' is at told = let t = (told part [] (ap (λ (x : Sat V). x.1) is ∙ (λ i. (value_at (at i), Some part) ∷ []) ∙ ap (λ (x : Sat V). (value_at (hand x.0).slot, Some part) ∷ []) (sym is))).1 in
       let e = ap (λ (x : Sat V). slice_index x.0.sizes (hand x.0).slot) is in omega arith
 
   -- and the step is a give
-  pub gave_seen : (m : Meter V) (st : Step (Option V)) (r slot : ℕ) (part : V) (me me' me'' : Sat V) → me' ≡ (filling m me, (slot, Some part) ∷ []) → slot ≡ (hand me.0).slot → gave m st me' r me'' → SeenGive m me.0.base (filling m me) part
+  pub gave_seen : (m : Meter V) (st : Step (Option V)) (r slot : ℕ) (part : V) (me me' me'' : Sat V) → me' ≡ (filling m me, (value_at slot, Some part) ∷ []) → slot ≡ (hand me.0).slot → gave m st me' r me'' → SeenGive m me.0.base (filling m me) part
   gave_seen m st r slot part me me' me'' is at told = subst (λ (x : Sat V). SeenGive m x.0.base x.0 part) is
-      (told part [] (ap (λ (x : Sat V). x.1) is ∙ (λ i. (at i, Some part) ∷ []) ∙ ap (λ (x : Sat V). ((hand x.0).slot, Some part) ∷ []) (sym is))).2
+      (told part [] (ap (λ (x : Sat V). x.1) is ∙ (λ i. (value_at (at i), Some part) ∷ []) ∙ ap (λ (x : Sat V). (value_at (hand x.0).slot, Some part) ∷ []) (sym is))).2
 
 -- what a seat keeps tells that it has seen the caller's own node
 pub seen_own : {V : Type 0} (m : Meter V) {caller slot used head : ℕ} {linked : Bool} {me : Sat V} → IsSeated m caller slot linked used head me → HasSeenOwn me.0
@@ -222,34 +222,34 @@ module _ {V : Type 0} (m : Meter V) {caller slot used head : ℕ} {linked : Bool
   }
 
   -- the exchange that takes the value of the own slot
-  pub take_step : (k : Founding V) (slots id word new : ℕ) (part : V) → IsSeated m caller slot linked used head me → linked ≡ true → (hand me.0).hold ≡ Rests part → word ≡ 80 + 8 * slot → new ≡ 2 * used
+  pub take_step : (k : Founding V) (slots id word new : ℕ) (part : V) → IsSeated m caller slot linked used head me → linked ≡ true → (hand me.0).hold ≡ Rests part → word ≡ 80 + 16 * slot → new ≡ 2 * used
       → Allows (Holds m k) slots id me word (λ _. new) (took m (step slots word new 0 none) me)
   take_step k slots id word new part o is_linked there at is = subst (λ (w : ℕ). Allows (Holds m k) slots id me w (λ _. new) (took m (step slots w new 0 none) me)) (sym (at ∙ ap state_at o.slot_is))
       (takes_slot m k slots id new me part o.one (sym o.linked_is ∙ is_linked) there (is ∙ ap (λ (u : ℕ). 2 * u) (o.used_is ∙ ap (used_now m) there)))
 
   -- the load that takes an empty slot
-  pub claim_step : (k : Founding V) (slots id word : ℕ) → IsSeated m caller slot linked used head me → IsOut (hand me.0).hold → word ≡ 80 + 8 * slot
+  pub claim_step : (k : Founding V) (slots id word : ℕ) → IsSeated m caller slot linked used head me → IsOut (hand me.0).hold → word ≡ 80 + 16 * slot
       → Allows (Holds m k) slots id me word (λ n. n) (claimed m (step slots word 0 0 none) me)
   claim_step k slots id word o out at = subst (λ (w : ℕ). Allows (Holds m k) slots id me w (λ n. n) (claimed m (step slots w 0 0 none) me)) (sym (at ∙ ap state_at o.slot_is)) (claims m k slots id me o.one out)
 
   -- after it the seat holds the empty slot
-  pub claimed_none : (me' : Sat V) → IsSeated m caller slot linked used head me → me' ≡ (filling m me, ((hand me.0).slot, None) ∷ me.1) → me' ≡ (filling m me, (slot, None) ∷ [])
-  claimed_none me' o is = is ∙ (λ i. (filling m me, (sym o.slot_is i, None) ∷ o.free i))
+  pub claimed_none : (me' : Sat V) → IsSeated m caller slot linked used head me → me' ≡ (filling m me, (value_at (hand me.0).slot, None) ∷ me.1) → me' ≡ (filling m me, (value_at slot, None) ∷ [])
+  claimed_none me' o is = is ∙ (λ i. (filling m me, (value_at (sym o.slot_is i), None) ∷ o.free i))
 
   -- the load that gives the emptied slot back
-  pub empty_step : (k : Founding V) (slots id word : ℕ) (me' : Sat V) → IsSeated m caller slot linked used head me → linked ≡ true → me' ≡ (held me.0 (Moving used), (slot, None) ∷ []) → word ≡ 80 + 8 * slot
+  pub empty_step : (k : Founding V) (slots id word : ℕ) (me' : Sat V) → IsSeated m caller slot linked used head me → linked ≡ true → me' ≡ (held me.0 (Moving used), (value_at slot, None) ∷ []) → word ≡ 80 + 16 * slot
       → Allows (Holds m k) slots id me' word (λ n. n) (emptied (step slots word 0 0 none) me')
   empty_step k slots id word me' o is_linked after at = subst (λ (z : ℕ × Sat V). Allows (Holds m k) slots id z.1 z.0 (λ n. n) (emptied (step slots z.0 0 0 none) z.1)) (λ i. (sym (at ∙ ap state_at o.slot_is) i, sym after i))
-      (empties m k slots id used (held me.0 (Moving used), (slot, None) ∷ []) [] refl (sym o.linked_is ∙ is_linked) refl (ap (λ (s : ℕ). (s, None) ∷ []) o.slot_is))
+      (empties m k slots id used (held me.0 (Moving used), (value_at slot, None) ∷ []) [] refl (sym o.linked_is ∙ is_linked) refl (ap (λ (s : ℕ). (value_at s, None) ∷ []) o.slot_is))
 
-  pub emptied_after : (st : Step (Option V)) (r : ℕ) (me' me'' : Sat V) → IsSeated m caller slot linked used head me → me' ≡ (held me.0 (Moving used), (slot, None) ∷ []) → emptied st me' r me'' → me'' ≡ (held me.0 (Away used), [])
-  emptied_after st r me' me'' o is told = told used [] (ap (λ (x : Sat V). (hand x.0).hold) is) (ap (λ (x : Sat V). x.1) is ∙ (λ i. (o.slot_is i, None) ∷ []) ∙ ap (λ (x : Sat V). ((hand x.0).slot, None) ∷ []) (sym is)) ∙ ap (λ (x : Sat V). (held x.0 (Away used), [])) is
+  pub emptied_after : (st : Step (Option V)) (r : ℕ) (me' me'' : Sat V) → IsSeated m caller slot linked used head me → me' ≡ (held me.0 (Moving used), (value_at slot, None) ∷ []) → emptied st me' r me'' → me'' ≡ (held me.0 (Away used), [])
+  emptied_after st r me' me'' o is told = told used [] (ap (λ (x : Sat V). (hand x.0).hold) is) (ap (λ (x : Sat V). x.1) is ∙ (λ i. (value_at (o.slot_is i), None) ∷ []) ∙ ap (λ (x : Sat V). (value_at (hand x.0).slot, None) ∷ []) (sym is)) ∙ ap (λ (x : Sat V). (held x.0 (Away used), [])) is
 
   -- the store that gives the value
-  pub give_step : (k : Founding V) (slots id word new : ℕ) (me' : Sat V) (part : V) → IsSeated m caller slot linked used head me → me' ≡ (filling m me, (slot, Some part) ∷ []) → used_now m (hand me.0).hold ≤ m.used part → Fits m k.life (hand me.0).who part
-      → word ≡ 80 + 8 * slot → new ≡ 2 * m.used part + 1 → IsOut (hand me.0).hold → Allows (Holds m k) slots id me' word (λ _. new) (λ _. gave m (step slots word new 0 none) me' new)
+  pub give_step : (k : Founding V) (slots id word new : ℕ) (me' : Sat V) (part : V) → IsSeated m caller slot linked used head me → me' ≡ (filling m me, (value_at slot, Some part) ∷ []) → used_now m (hand me.0).hold ≤ m.used part → Fits m k.life (hand me.0).who part
+      → word ≡ 80 + 16 * slot → new ≡ 2 * m.used part + 1 → IsOut (hand me.0).hold → Allows (Holds m k) slots id me' word (λ _. new) (λ _. gave m (step slots word new 0 none) me' new)
   give_step k slots id word new me' part o after more fits at is out = subst (λ (z : ℕ × Sat V). Allows (Holds m k) slots id z.1 z.0 (λ _. new) (λ _. gave m (step slots z.0 new 0 none) z.1 new)) (λ i. (sym (at ∙ ap state_at o.slot_is) i, sym after i))
-      (gives_slot m k slots id new (filling m me, (slot, Some part) ∷ []) part [] refl (ap (λ (s : ℕ). (s, Some part) ∷ []) o.slot_is) (comes_with (hand me.0).hold out) (let e = used_with m (hand me.0).hold in omega arith) fits is)
+      (gives_slot m k slots id new (filling m me, (value_at slot, Some part) ∷ []) part [] refl (ap (λ (s : ℕ). (value_at s, Some part) ∷ []) o.slot_is) (comes_with (hand me.0).hold out) (let e = used_with m (hand me.0).hold in omega arith) fits is)
 
   -- after a load of a state
   pub seated_sized : (i used' : ℕ) (me' : Sat V) → me' ≡ (sized me.0 i used', me.1) → IsSeated m caller slot linked used head me → IsSeated m caller slot linked used head me'
@@ -257,5 +257,5 @@ module _ {V : Type 0} (m : Meter V) {caller slot used head : ℕ} {linked : Bool
       (subst (λ (l : List Node). before l (length l) ≤ slot_count) (sym seen) o.link_small) (subst (λ (l : List Node). length l ≤ slot_count) (sym seen) o.few) (λ e. subst (λ (l : List Node). length l < slot_count) (sym seen) (o.fewer e)) (λ e. subst (λ (l : List Node). ¬ LacksNode l slot caller) (sym seen) (o.own e)) o
 
   -- the load of a state
-  pub size_step : (k : Founding V) (slots id word i : ℕ) → IsSeated m caller slot linked used head me → i < slot_count → word ≡ 80 + 8 * i → Allows (Holds m k) slots id me word (λ n. n) (saw_size m (step slots word 0 0 none) me)
+  pub size_step : (k : Founding V) (slots id word i : ℕ) → IsSeated m caller slot linked used head me → i < slot_count → word ≡ 80 + 16 * i → Allows (Holds m k) slots id me word (λ n. n) (saw_size m (step slots word 0 0 none) me)
   size_step k slots id word i o low at = subst (λ (w : ℕ). Allows (Holds m k) slots id me w (λ n. n) (saw_size m (step slots w 0 0 none) me)) (sym at) (sizes_up m k slots id i me o.one low)

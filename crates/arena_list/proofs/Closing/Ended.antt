@@ -1,5 +1,5 @@
 -- What a closed list gives: its values, from the marks that its seats know of them.
-use Rattle.std.proofs.Common.{◌≡◌, ℕ, zero, suc, ◌+◌, ◌≤◌, List, [], ◌∷◌, ◌++◌, map, length, reverse, sym, refl, ap, subst, ◌∙◌, inl, inr, ⊎_elim, arith, Option, Some, None}
+use Rattle.std.proofs.Common.{◌≡◌, ◌≢◌, ℕ, zero, suc, ◌+◌, ◌≤◌, List, [], ◌∷◌, ◌++◌, map, length, reverse, sym, refl, ap, subst, ◌∙◌, inl, inr, ⊎_elim, arith, Option, Some, None}
 use Rattle.std.proofs.lemmas.List.{map-append}
 use mathlib.Core.Option as maybe
 use mathlib.Core.Option.{some, some-injective, some-ne-none}
@@ -13,6 +13,7 @@ use Rattle.arena_list.specs.declared.for_clauses.mark.Mark.{Mark}
 use Rattle.arena_list.specs.declared.for_clauses.view.Node.{Node}
 use Rattle.arena_list.specs.declared.for_clauses.view.View.{View}
 use Rattle.arena_list.specs.Words.Core.{slot_count}
+use Rattle.arena_list.specs.Words.Written.{value_at, value_count}
 use Rattle.arena_list.specs.Words.Nodes.{before, head_of, node_word, Begins}
 use Rattle.arena_list.specs.declared.for_clauses.view.Hand.{Hand}
 use Rattle.arena_list.specs.declared.for_clauses.view.Hold.TheVariants.{Rests}
@@ -24,7 +25,7 @@ use Rattle.arena_list.specs.Closing.Closed.{HasTold, AreAtMost, used_sum, AreLin
 use Rattle.arena_list.specs.Closing.Collected.{place_of, AreIn, AreStored, Fills, Empties}
 use Rattle.arena_list.proofs.Words.Few.{at_map, at_mapped, len_map}
 use Rattle.arena_list.proofs.Marks.Marked.{map_after, slots_marked, callers_marked, nodes_marked, others_marked, final_seen}
-use Rattle.arena_list.proofs.Closing.Ending.{Ends, ends, count, slots_are, spare_from, spare_there}
+use Rattle.arena_list.proofs.Closing.Ending.{Ends, ends, none_between, count, slots_are, spare_from, spare_there}
 use Rattle.arena_list.proofs.Closing.Ending.{others_vacant as marks_vacant}
 use Rattle.arena_list.proofs.Marks.Badges.{some_one}
 use Rattle.arena_list.proofs.Calls.SeatFacts.{mine_tells, mine_is, spare_tells, spare_is}
@@ -141,14 +142,20 @@ pub record Ended {V : Type 0} (c : Coded V) (m : Meter V) (k : Founding V) (v : 
   pub spares_are : (spare : List (Entry V)) → map (marked_entry c m) spare ≡ spares_of (map hand_of seats) → AreSpares c m seats spare
   pub none_left : (rest left : List (Option V)) (spare : List (Entry V)) → Empties filled rest entries → map (marked_entry c m) spare ≡ spares_of (map hand_of seats) → Empties rest left spare → (i : ℕ) (x : Option V) → get_elem? left i ≡ some x → x ≡ None
 
+-- between the values of the slots there is none
+pub between_empty : {V : Type 0} (c : Coded V) (m : Meter V) (k : Founding V) (id : ℕ) (v : View Mark) (words : List ℕ) (slots : List (Option V)) → Final (Seen (HoldsSeen c m k) id v) words slots → length slots ≡ value_count
+    → (place : ℕ) (x : Option V) → get_elem? slots place ≡ some x → ((slot : ℕ) → place ≢ value_at slot) → x ≡ None
+between_empty c m k id v words slots final long place x there off = no_value c m x
+    (none_between marks (marked_founding c m k) id v words (map (f c m) slots) (final_seen c m k id v words slots final) (len_map (f c m) slots ∙ long) place (f c m x) (at_map (f c m) slots place x there) off)
+
 module _ {V : Type 0} (c : Coded V) (m : Meter V) (k : Founding V) (id : ℕ) (v : View Mark) (words : List ℕ) (slots parts : List (Option V)) (seats : List ListSeat) (final : Final (Seen (HoldsSeen c m k) id v) words slots)
-    (taken : (i : ℕ) (x : Option V) → get_elem? parts i ≡ some x → get_elem? slots i ≡ some x) (long : length parts ≡ slot_count)
+    (taken : (i : ℕ) (x : Option V) → get_elem? parts i ≡ some x → get_elem? slots (value_at i) ≡ some x) (long : length parts ≡ slot_count)
     (hands : v.hands ≡ reverse (map hand_of seats)) (enough : length k.callers.items ≤ length seats) (rested : (i : ℕ) (t : ListSeat) → get_elem? seats i ≡ some t → Rested t) where
   abbrev key : Founding Mark
   key = marked_founding c m k
 
-  taken_marked : (i : ℕ) (x : Option Mark) → get_elem? (map (f c m) parts) i ≡ some x → get_elem? (map (f c m) slots) i ≡ some x
-  taken_marked i x at = let p = at_mapped (f c m) parts i x at in at_map (f c m) slots i p.0 (taken i p.0 p.1) ∙ ap (λ (z : Option Mark). some z) p.2
+  taken_marked : (i : ℕ) (x : Option Mark) → get_elem? (map (f c m) parts) i ≡ some x → get_elem? (map (f c m) slots) (value_at i) ≡ some x
+  taken_marked i x at = let p = at_mapped (f c m) parts i x at in at_map (f c m) slots (value_at i) p.0 (taken i p.0 p.1) ∙ ap (λ (z : Option Mark). some z) p.2
 
   module _ (entries : List (Entry V)) (is : entries ≡ others_of k.linked.items k.callers.items) where
     is_marked : map (me c m) entries ≡ others_of key.linked.items key.callers.items

@@ -18,6 +18,7 @@ use Rattle.arena_list.specs.declared.for_clauses.mark.Mark.{Mark}
 use Rattle.arena_list.specs.declared.for_clauses.view.View.{View}
 use Rattle.arena_list.specs.Words.Nodes.{node, before, head_of, node_word, slot_of, Begins}
 use Rattle.arena_list.specs.Words.Core.{Standing, slot_count}
+use Rattle.arena_list.specs.Words.Written.{value_at, value_count}
 use Rattle.arena_list.specs.Rule.Views.{out, shown, sum_seen}
 use Rattle.arena_list.specs.Rule.Founded.{Meter, Fits, Differ, slot, caller, node_of, others_of}
 use Rattle.arena_list.specs.Rule.Holds.{Holds, HoldsAt, IsHand, hand_count}
@@ -198,7 +199,7 @@ module _ (m : Meter Mark) (k : Founding Mark) (s : State (Option Mark) (View Mar
   node_apart i n a j t b spare = λ same. let own = is_hand j t b in own.spare spare i n a (some-injective _ _ (sym (r.listed i n a).held ∙ ap r.holder same ∙ own.held))
 
   -- ---- the values as they were at home, then with those of the others, without those of the list, and without the spare ones
-  module _ (homes with_others : List (Option Mark)) (kept : (i : ℕ) (y : Option Mark) → get_elem? s.homes i ≡ some (some y) → get_elem? homes i ≡ some y) (filled : Fills homes with_others others) where
+  module _ (homes with_others : List (Option Mark)) (kept : (i : ℕ) (y : Option Mark) → get_elem? s.homes (value_at i) ≡ some (some y) → get_elem? homes i ≡ some y) (filled : Fills homes with_others others) where
     pub seat_value : (i : ℕ) (t : ListSeat) (part : Mark) → get_elem? seats i ≡ some t → out (view t) ≡ Rests part → get_elem? with_others (hand_of t).slot ≡ some (Some part)
     seat_value i t part a is = filled.rest (hand_of t).slot (hand_apart i t a) ∙ kept (hand_of t).slot (Some part) (hand_value m k s r id v at all_here (length seats - 1 - i) (hand_of t) part (hand_at i t a) is)
 
@@ -384,7 +385,7 @@ module _ (m : Meter Mark) (k : Founding Mark) (s : State (Option Mark) (View Mar
         pub none_left : length homes ≡ slot_count → (i : ℕ) (x : Option Mark) → get_elem? left i ≡ some x → x ≡ None
         none_left long i x b = ⊎_elim
             (λ free. ⊎_elim (λ t. t) (λ t. ⊎_elim (λ t. t)
-            (λ t. ⊎_elim (λ h. at_one homes i x None h (kept i None (r.idle i (let l = at_below homes i x h in omega arith) free)))
+            (λ t. ⊎_elim (λ h. at_one homes i x None h (kept i None (r.idle (value_at i) (let l = at_below homes i x h in omega arith) (λ slot same. ap r.holder (let e : slot ≡ i = omega arith in e) ∙ free))))
             (λ o. absurd (some-ne-none _ (sym (r.wards o.0 o.1 o.2).held ∙ ap r.holder o.3 ∙ free))) (filled.only i x t)) (emptied.only i x t)) (gone.only i x b))
             (λ h. held_empty i h.0 h.1 x b)
             (cases_maybe (r.holder i))
@@ -401,9 +402,15 @@ pub record Ends (m : Meter Mark) (k : Founding Mark) (v : View Mark) (seats : Li
   pub spares : (rest : List (Option Mark)) → Empties filled rest entries → AreIn rest (spares_of (map hand_of seats))
   pub none_left : (rest left : List (Option Mark)) → Empties filled rest entries → Empties rest left (spares_of (map hand_of seats)) → (i : ℕ) (x : Option Mark) → get_elem? left i ≡ some x → x ≡ None
 
+-- between the values of the slots there is none
+pub none_between : (m : Meter Mark) (k : Founding Mark) (id : ℕ) (v : View Mark) (words : List ℕ) (slots : List (Option Mark)) → Final (Seen (Holds m k) id v) words slots → length slots ≡ value_count
+    → (place : ℕ) (x : Option Mark) → get_elem? slots place ≡ some x → ((slot : ℕ) → place ≢ value_at slot) → x ≡ None
+none_between m k id v words slots final long place x there off = let empty = final.1.0.idle place (let l = at_below slots place x there in omega arith) (λ slot same. absurd (off slot same)) in
+    at_one slots place x None there (final.4 place None empty)
+
 -- these words, and parts that are the values of the slots
 module _ (m : Meter Mark) (k : Founding Mark) (id : ℕ) (v : View Mark) (words : List ℕ) (slots parts : List (Option Mark)) (seats : List ListSeat) (final : Final (Seen (Holds m k) id v) words slots)
-    (taken : (i : ℕ) (x : Option Mark) → get_elem? parts i ≡ some x → get_elem? slots i ≡ some x) (long : length parts ≡ slot_count)
+    (taken : (i : ℕ) (x : Option Mark) → get_elem? parts i ≡ some x → get_elem? slots (value_at i) ≡ some x) (long : length parts ≡ slot_count)
     (hands : v.hands ≡ reverse (map hand_of seats)) (enough : length k.callers.items ≤ length seats) (rested : (i : ℕ) (t : ListSeat) → get_elem? seats i ≡ some t → Rested t) where
   abbrev state : State (Option Mark) (View Mark)
   state = final.0
@@ -415,9 +422,9 @@ module _ (m : Meter Mark) (k : Founding Mark) (id : ℕ) (v : View Mark) (words 
   pub count : length seats ≡ length k.callers.items
   count = let all = ap length hands ∙ length-reverse (map hand_of seats) ∙ len_map hand_of seats in let one = total-one hand_count state.views id v final.1.1 in let c = rule.counted in omega arith
 
-  kept : (i : ℕ) (y : Option Mark) → get_elem? state.homes i ≡ some (some y) → get_elem? parts i ≡ some y
-  kept i y e = let t = at_there parts i (let a = at_below state.homes i (some y) e in let b = rule.slots in omega arith) in
-      t.1 ∙ ap (λ (x : Option Mark). some x) (at_one slots i t.0 y (taken i t.0 t.1) (final.4 i y e))
+  kept : (i : ℕ) (y : Option Mark) → get_elem? state.homes (value_at i) ≡ some (some y) → get_elem? parts i ≡ some y
+  kept i y e = let t = at_there parts i (let a = at_below state.homes (value_at i) (some y) e in let b = rule.slots in omega arith) in
+      t.1 ∙ ap (λ (x : Option Mark). some x) (at_one slots (value_at i) t.0 y (taken i t.0 t.1) (final.4 (value_at i) y e))
 
   -- the slots of other callers' entries are empty
   pub others_vacant : (entries : List (Entry Mark)) → entries ≡ others_of k.linked.items k.callers.items → (j : ℕ) (e : Entry Mark) → get_elem? entries j ≡ some e → get_elem? parts e.slot ≡ some None

@@ -12,6 +12,7 @@ use Rattle.arena_list.specs.declared.for_clauses.view.Hold.{Hold}
 use Rattle.arena_list.specs.declared.for_clauses.view.Hold.TheVariants.{Rests}
 use Rattle.arena_list.specs.declared.for_clauses.view.Hand.{Hand}
 use Rattle.arena_list.specs.declared.for_clauses.view.View.{View}
+use Rattle.arena_list.specs.Words.Written.{value_at}
 use Rattle.arena_list.specs.Rule.Founded.{Meter, others_of}
 use Rattle.arena_list.specs.Rule.Holds.{Holds, HoldsAt, IsHand, Stands, hand_count}
 use Rattle.arena_list.proofs.Words.Lists.{at_below, at_one, total-two}
@@ -33,6 +34,6 @@ module _ {V : Type 0} (m : Meter V) (k : Founding V) (s : State (Option V) (View
       ⊎ ((j : ℕ) × (e : Entry V) × (get_elem? (others_of k.linked.items k.callers.items) j ≡ some e) × (e.slot ≡ n.slot) × (e.caller ≡ n.caller))
   node_of_hand i n e = ⊎_elim (λ t. inl (stands_here n.slot n.caller t)) (λ t. inr t) (r.traced n.slot n.caller (r.listed i n e).held)
 
-  -- the value of a hand that rests is at home in its slot
-  pub hand_value : (i : ℕ) (h : Hand V) (part : V) → get_elem? v.hands i ≡ some h → h.hold ≡ Rests part → get_elem? s.homes h.slot ≡ some (some (Some part))
+  -- the value of a hand that rests is at home in its place
+  pub hand_value : (i : ℕ) (h : Hand V) (part : V) → get_elem? v.hands i ≡ some h → h.hold ≡ Rests part → get_elem? s.homes (value_at h.slot) ≡ some (some (Some part))
   hand_value i h part b is = let o = (r.hands id i v h at b).1 in (subst (λ (x : Hold V). HoldsAt m k.life r.core s.homes h x) is o.hold).1

@@ -14,7 +14,7 @@ use Rattle.atomic_table.specs.Table.{Me, opening, Allows, Splits, Joins, Final, 
 use Rattle.arena_list.specs.declared.for_clauses.founding.Founding.{Founding}
 use Rattle.arena_list.specs.declared.for_clauses.view.View.{View}
 use Rattle.arena_list.specs.Words.Nodes.{before, head_of, node_word}
-use Rattle.arena_list.specs.Words.Written.{node_at, state_at}
+use Rattle.arena_list.specs.Words.Written.{node_at, state_at, value_count}
 use Rattle.arena_list.specs.Marks.Image.{seen_home, seen_state, seen_me}
 use Rattle.arena_list.specs.Rule.Holds.{Holds}
 use Rattle.arena_list.specs.Marks.OfParts.{marks, mark, marked, marked_entry, marked_founding, HoldsSeen}
@@ -97,7 +97,7 @@ module _ {V : Type 0} (c : Coded V) (m : Meter V) where
     f = marked c m
 
     -- the rule holds at the start
-    pub opens_seen : (words : List ℕ) → AreFit m k.life k.linked.items k.spare.items k.callers.items → IsLaid m k.linked.items k.callers.items words → HoldsSeen c m k (opening words (replicate slot_count None) (first_view (marked_founding c m k)))
+    pub opens_seen : (words : List ℕ) → AreFit m k.life k.linked.items k.spare.items k.callers.items → IsLaid m k.linked.items k.callers.items words → HoldsSeen c m k (opening words (replicate value_count None) (first_view (marked_founding c m k)))
     opens_seen words fit laid = opens marks (marked_founding c m k) words (fit_marked k.life k.linked.items k.spare.items k.callers.items fit) (laid_marked k.linked.items k.callers.items words laid)
 
     pub step_seen : (slots id : ℕ) (own : Me (Option V) (View Mark)) (i : ℕ) (g : ℕ → ℕ) (then : ℕ → Me (Option Mark) (View Mark) → Type 0) → Allows (Holds marks (marked_founding c m k)) slots id (seen_me f own) i g then

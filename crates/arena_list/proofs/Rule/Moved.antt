@@ -17,7 +17,7 @@ use Rattle.arena_list.specs.declared.for_clauses.view.Hand.{Hand}
 use Rattle.arena_list.specs.declared.for_clauses.view.View.{View}
 use Rattle.arena_list.specs.Words.Nodes.{node, Begins}
 use Rattle.arena_list.specs.Words.Core.{Core, Standing, IsListed, CallersDiffer, slot_count}
-use Rattle.arena_list.specs.Words.Written.{Show, node_at}
+use Rattle.arena_list.specs.Words.Written.{Show, node_at, value_at, value_count}
 use Rattle.arena_list.specs.Rule.Founded.{Meter}
 use Rattle.arena_list.specs.Rule.Holds.{Holds, HoldsAt, IsHand, Knows, IsWard, Stands, hand_count}
 use Rattle.arena_list.proofs.Words.Lists.{at_only, at_one, at_replaced, total-set, begins_on}
@@ -33,12 +33,12 @@ pub record Moves {V : Type 0} (c : Core) (holder : ℕ → maybe.Option ℕ) (wo
   pub standing : (slot : ℕ) → slot ≢ h.slot → c'.standing slot ≡ c.standing slot
   pub used : (c.standing h.slot).used ≤ (c'.standing h.slot).used
   pub nodes : (slot : ℕ) → slot < slot_count → slot ≢ h.slot → slice_index words' (node_at slot) ≡ slice_index words (node_at slot)
-  pub homes_same : (slot : ℕ) → slot ≢ h.slot → get_elem? homes' slot ≡ get_elem? homes slot
+  pub homes_same : (place : ℕ) → place ≢ value_at h.slot → get_elem? homes' place ≡ get_elem? homes place
   pub show : Show c' words'
-  pub slots : length homes' ≡ slot_count
+  pub slots : length homes' ≡ value_count
 
 module _ {V : Type 0} (m : Meter V) (life : ℕ) where
-  hold_moves : (c c' : Core) (hs hs' : Homes V) (g : Hand V) (x : Hold V) → c'.standing g.slot ≡ c.standing g.slot → get_elem? hs' g.slot ≡ get_elem? hs g.slot → HoldsAt m life c hs g x → HoldsAt m life c' hs' g x
+  hold_moves : (c c' : Core) (hs hs' : Homes V) (g : Hand V) (x : Hold V) → c'.standing g.slot ≡ c.standing g.slot → get_elem? hs' (value_at g.slot) ≡ get_elem? hs (value_at g.slot) → HoldsAt m life c hs g x → HoldsAt m life c' hs' g x
   hold_moves c c' hs hs' g Vacant s t x = (s ∙ x.0, t ∙ x.1)
   hold_moves c c' hs hs' g Filling s t x = s ∙ x
   hold_moves c c' hs hs' g (Moving used) s t x = (s ∙ x.0, x.1)
@@ -55,7 +55,7 @@ module _ {V : Type 0} (m : Meter V) (life : ℕ) where
       linked = λ e. let l = o.linked e in (l.0, step.grows.same l.0 _ l.1);
       spare = λ e i n at. ⊎_elim (λ t. o.spare e i n t) (λ t. λ is. who (sym is ∙ ap (λ (n : Node). n.caller) t)) (step.adds i n at);
       noted = λ p e. step.nodes g.slot o.slot slot ∙ o.noted p e;
-      hold = hold_moves c c' homes homes' g g.hold (step.standing g.slot slot) (step.homes_same g.slot slot) o.hold;
+      hold = hold_moves c c' homes homes' g g.hold (step.standing g.slot slot) (step.homes_same (value_at g.slot) (λ e. slot (omega arith))) o.hold;
     }
 
     pub knows_moves : (v : View V) → Knows c v → Knows c' v
@@ -76,7 +76,7 @@ module _ {V : Type 0} (m : Meter V) (life : ℕ) where
       no_seat = o.no_seat;
       standing = step.standing e.slot slot ∙ o.standing;
       fits = o.fits;
-      elsewhere = step.homes_same e.slot slot ∙ o.elsewhere;
+      elsewhere = step.homes_same (value_at e.slot) (λ t. slot (omega arith)) ∙ o.elsewhere;
       linked = (o.linked.0, step.grows.same o.linked.0 _ o.linked.1);
     }
 
@@ -137,7 +137,7 @@ module _ {V : Type 0} (m : Meter V) (k : Founding V) (s : State (Option V) (View
               some-ne-none _ (sym mine.here ∙ ap r.place (sym who) ∙ old.no_seat) in
               ward_moves m k.life r.core r.holder r.place s.words s.homes h c' words' homes' step e apart old;
           traced = λ slot who e. ⊎_elim (λ t. inl (still slots whos slot who t)) (λ t. inr t) (r.traced slot who e);
-          idle = λ slot small e. let apart : slot ≢ h.slot = λ same. some-ne-none _ (sym mine.held ∙ ap r.holder (sym same) ∙ e) in step.homes_same slot apart ∙ r.idle slot small e;
+          idle = λ place small free. step.homes_same place (λ same. some-ne-none _ (sym mine.held ∙ free h.slot same)) ∙ r.idle place small free;
           stand = λ i who e. let x = r.stand i who e in (x.0, still slots whos x.0 who x.1);
           counted = let t = total-set hand_count s.views id v w at in let a : length v.hands ≡ 1 = ap length one in let b : length w.hands ≡ 1 = ap length one' in let e = r.counted in omega arith;
         }

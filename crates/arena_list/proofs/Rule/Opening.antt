@@ -15,7 +15,7 @@ use Rattle.arena_list.specs.declared.for_clauses.view.Hand.{Hand}
 use Rattle.arena_list.specs.declared.for_clauses.view.View.{View}
 use Rattle.arena_list.specs.Words.Nodes.{before, node_word}
 use Rattle.arena_list.specs.Words.Core.{Core, Standing, core, rests, away, IsListed, slot_count}
-use Rattle.arena_list.specs.Words.Written.{node_at, state_at, state_word, bit}
+use Rattle.arena_list.specs.Words.Written.{node_at, state_at, state_word, bit, value_at, value_count}
 use Rattle.arena_list.specs.Rule.Founded.{Meter, AreFit, IsLaid, Differ, has, slot, caller, node_of, entry_of, others_of, without, fresh, or_else, hand_for, first_view}
 use Rattle.arena_list.specs.Rule.Holds.{Holds, IsHand, Knows, Stands, IsOther}
 use Rattle.arena_list.proofs.Words.Lists.{at_only, at_one, at_more, begins_itself}
@@ -212,7 +212,7 @@ module _ {V : Type 0} (m : Meter V) (k : Founding V) (words : List ℕ) (fit : A
   strangers = others_of linked callers
 
   abbrev homes : List (maybe.Option (Option V))
-  homes = map some (replicate slot_count None)
+  homes = map some (replicate value_count None)
 
   has_entry : (i who : ℕ) → get_elem? callers i ≡ some who → Has m k fit who
   has_entry i who at = entry_for m k fit i who at
@@ -236,8 +236,11 @@ module _ {V : Type 0} (m : Meter V) (k : Founding V) (words : List ℕ) (fit : A
   one_slot : (i j : ℕ) (a b : Entry V) → get_elem? all i ≡ some a → get_elem? all j ≡ some b → a.slot ≡ b.slot → a ≡ b
   one_slot i j a b p q e = let same = fit.slots i j b.slot (at_map slot all i a p ∙ ap (λ (z : ℕ). some z) e) (at_map slot all j b q) in at_one all j a b (ap (get_elem? all) (sym same) ∙ p) q
 
-  home_at : (s : ℕ) → s < slot_count → get_elem? homes s ≡ some (some None)
-  home_at s low = at_map some (replicate slot_count None) s None (nones slot_count s low)
+  home_at : (place : ℕ) → place < value_count → get_elem? homes place ≡ some (some None)
+  home_at place low = at_map some (replicate value_count None) place None (nones value_count place low)
+
+  own_home : (s : ℕ) → s < slot_count → get_elem? homes (value_at s) ≡ some (some None)
+  own_home s low = home_at (value_at s) (omega arith)
 
   -- the slot of an entry whose caller has a seat shows nothing yet
   still_away : (i : ℕ) (e : Entry V) → get_elem? all i ≡ some e → ((j : ℕ) (o : Entry V) → get_elem? strangers j ≡ some o → o.caller ≢ e.caller) → standing e.slot ≡ away 0
@@ -261,7 +264,7 @@ module _ {V : Type 0} (m : Meter V) (k : Founding V) (words : List ℕ) (fit : A
         linked = λ is. (t.0, at_map node_of linked t.0 e t.2);
         spare = λ is. absurd (false≢true (sym is));
         noted = λ p is. absurd (none-some p is);
-        hold = (still_away t.0 e there (λ j o a. λ same. seated_apart i who at j o a (same ∙ t.3)), home_at e.slot (fit.small t.0 e there));
+        hold = (still_away t.0 e there (λ j o a. λ same. seated_apart i who at j o a (same ∙ t.3)), own_home e.slot (fit.small t.0 e there));
       })
       (λ t. let e = t.1 in let there = at_behind linked spare t.0 e t.2 in subst (λ (h : Hand V). Hand' i h) (sym t.4) record {
         here = placed_at 0 callers fit.callers_once i e.caller (at ∙ ap (λ (z : ℕ). some z) (sym t.3)) ∙ ap (λ (z : ℕ). some (0, z)) (let q : 0 + i ≡ i = omega arith in q);
@@ -270,7 +273,7 @@ module _ {V : Type 0} (m : Meter V) (k : Founding V) (words : List ℕ) (fit : A
         linked = λ is. absurd (false≢true is);
         spare = λ is j n a. λ same. let q = at_mapped node_of linked j n a in t.5 j q.0 q.1 (ap (λ (n : Node). n.caller) q.2 ∙ same ∙ t.3);
         noted = λ p is. absurd (none-some p is);
-        hold = (still_away (length linked + t.0) e there (λ j o a. λ same. seated_apart i who at j o a (same ∙ t.3)), home_at e.slot (fit.small (length linked + t.0) e there));
+        hold = (still_away (length linked + t.0) e there (λ j o a. λ same. seated_apart i who at j o a (same ∙ t.3)), own_home e.slot (fit.small (length linked + t.0) e there));
       })
       (has_entry i who at)
 
@@ -314,7 +317,7 @@ module _ {V : Type 0} (m : Meter V) (k : Founding V) (words : List ℕ) (fit : A
       (at_append linked spare i e r.2)
 
   -- the rule holds at the start
-  pub opens : Holds m k (opening words (replicate slot_count None) (first_view k))
+  pub opens : Holds m k (opening words (replicate value_count None) (first_view k))
   unfolding c holder place standing
   opens = record {
     core = c;
@@ -339,11 +342,11 @@ module _ {V : Type 0} (m : Meter V) (k : Founding V) (words : List ℕ) (fit : A
       no_seat = placed_none 0 callers e.caller (not_true _ p.2);
       standing = odd_stands (m.used e.part) (slice_index words (state_at e.slot)) (laid.home i e a);
       fits = fit.parts p.0 e there;
-      elsewhere = home_at e.slot (fit.small p.0 e there);
+      elsewhere = own_home e.slot (fit.small p.0 e there);
       linked = (p.0, at_map node_of linked p.0 e p.1);
     };
     traced = traced_from;
-    idle = λ s low e. home_at s low;
+    idle = λ place low free. home_at place low;
     stand = λ i who e. ((hand_for k who).slot, stands_fresh i who e);
     started = begins_itself (map node_of linked);
     counted = (let a = len_map (hand_for k) callers in omega arith);

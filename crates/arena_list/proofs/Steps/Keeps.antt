@@ -12,7 +12,7 @@ use Rattle.arena_list.specs.declared.for_clauses.view.Hand.{Hand}
 use Rattle.arena_list.specs.declared.for_clauses.view.View.{View}
 use Rattle.arena_list.specs.Words.Nodes.{node_word}
 use Rattle.arena_list.specs.Words.Core.{Core, slot_count}
-use Rattle.arena_list.specs.Words.Written.{node_at, state_at}
+use Rattle.arena_list.specs.Words.Written.{node_at, state_at, value_at}
 use Rattle.arena_list.specs.Rule.Views.{hand, first_hand}
 use Rattle.arena_list.specs.Rule.Founded.{Meter, Fits}
 use Rattle.arena_list.specs.Rule.Holds.{Holds, HoldsAt, IsHand, Knows}
@@ -145,11 +145,11 @@ module _ {V : Type 0} (m : Meter V) (k : Founding V) where
     }
 
   pub hold_as : (c : Core) (hs : Homes V) (h g : Hand V) (x : Hold V) → g.slot ≡ h.slot → g.who ≡ h.who → (h.linked ≡ true → g.linked ≡ true) → HoldsAt m k.life c hs h x → HoldsAt m k.life c hs g x
-  hold_as c hs h g Vacant s w l x = (ap c.standing s ∙ x.0, ap (get_elem? hs) s ∙ x.1)
+  hold_as c hs h g Vacant s w l x = (ap c.standing s ∙ x.0, ap (λ (slot : ℕ). get_elem? hs (value_at slot)) s ∙ x.1)
   hold_as c hs h g Filling s w l x = ap c.standing s ∙ x
   hold_as c hs h g (Moving used) s w l x = (ap c.standing s ∙ x.0, l x.1)
-  hold_as c hs h g (Away used) s w l x = (ap c.standing s ∙ x.0, ap (get_elem? hs) s ∙ x.1, l x.2)
-  hold_as c hs h g (Rests part) s w l x = (ap c.standing s ∙ x.0, ap (get_elem? hs) s ∙ x.1, subst (λ (who : ℕ). Fits m k.life who part) (sym w) x.2)
+  hold_as c hs h g (Away used) s w l x = (ap c.standing s ∙ x.0, ap (λ (slot : ℕ). get_elem? hs (value_at slot)) s ∙ x.1, l x.2)
+  hold_as c hs h g (Rests part) s w l x = (ap c.standing s ∙ x.0, ap (λ (slot : ℕ). get_elem? hs (value_at slot)) s ∙ x.1, subst (λ (who : ℕ). Fits m k.life who part) (sym w) x.2)
 
   pub notes : (slots id new : ℕ) (me : Sat V) → length me.0.hands ≡ 1 → (hand me.0).linked ≡ false → new ≡ node_word (hand me.0).who (next_link me.0)
       → Allows (Holds m k) slots id me (node_at (hand me.0).slot) (λ _. new) (λ _. stored_node (step slots (node_at (hand me.0).slot) new 0 none) me new)

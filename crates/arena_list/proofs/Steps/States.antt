@@ -18,7 +18,7 @@ use Rattle.arena_list.specs.declared.for_clauses.view.Hand.{Hand}
 use Rattle.arena_list.specs.declared.for_clauses.view.View.{View}
 use Rattle.arena_list.specs.Words.Nodes.{Begins}
 use Rattle.arena_list.specs.Words.Core.{Core, Standing, core, rests, away, slot_count}
-use Rattle.arena_list.specs.Words.Written.{Show, node_at, state_at, state_word, bit}
+use Rattle.arena_list.specs.Words.Written.{Show, node_at, state_at, state_word, bit, value_at, value_count}
 use Rattle.arena_list.specs.Rule.Views.{hand}
 use Rattle.arena_list.specs.Rule.Founded.{Meter, Fits}
 use Rattle.arena_list.specs.Rule.Holds.{Holds, HoldsAt, IsHand, Knows}
@@ -86,7 +86,7 @@ module _ {V : Type 0} (m : Meter V) (k : Founding V) where
           (λ ne. get_or-set_other s.words (state_at h.slot) (state_at slot) new 0 (λ t. ne (omega arith)) ∙ r.show.states slot low ∙ ap state_word (sym (upd_else r.core.standing h.slot slot x ne)));
     }
 
-    restated : (x : Standing) (new : ℕ) (hs : Homes V) → new ≡ state_word x → (r.core.standing h.slot).used ≤ x.used → length hs ≡ slot_count → ((slot : ℕ) → slot ≢ h.slot → get_elem? hs slot ≡ get_elem? s.homes slot)
+    restated : (x : Standing) (new : ℕ) (hs : Homes V) → new ≡ state_word x → (r.core.standing h.slot).used ≤ x.used → length hs ≡ value_count → ((place : ℕ) → place ≢ value_at h.slot → get_elem? hs place ≡ get_elem? s.homes place)
         → Moves r.core r.holder s.words s.homes h (after x) (set s.words (state_at h.slot) new) hs
     unfolding after
     restated x new hs is more slots same = record {
@@ -191,22 +191,22 @@ module _ {V : Type 0} (m : Meter V) (k : Founding V) where
       → Allows (Holds m k) slots id me (state_at (hand me.0).slot) (λ _. new) (took m (step slots (state_at (hand me.0).slot) new 0 none) me)
   unfolding standing_moment
   takes_slot slots id new me part alone linked rests_there is s r _ at _ = let v = me.0 in let h = hand v in let o = own s r id v at alone in let hold = subst (λ (x : Hold V). HoldsAt m k.life r.core s.homes h x) rests_there o.hold in
-      let x = away (m.used part) in let out : Hold V = Moving (m.used part) in let w = held v out in let hs = set s.homes h.slot none in let knows = r.known id v at in
+      let x = away (m.used part) in let out : Hold V = Moving (m.used part) in let w = held v out in let hs = set s.homes (value_at h.slot) none in let knows = r.known id v at in
       let more : (r.core.standing h.slot).used ≤ m.used part = (let e = ap (λ (y : Standing). y.used) hold.0 in omega arith) in
-      let moves = restated s r id v at alone x new hs (is ∙ (let z : 2 * m.used part ≡ 2 * m.used part + 0 = omega arith in z)) more (length-set s.homes h.slot none ∙ r.slots) (λ slot ne. set_else s.homes h.slot slot none ne) in
+      let moves = restated s r id v at alone x new hs (is ∙ (let z : 2 * m.used part ≡ 2 * m.used part + 0 = omega arith in z)) more (length-set s.homes (value_at h.slot) none ∙ r.slots) (λ place ne. set_else s.homes (value_at h.slot) place none ne) in
       let hand_is = rehold s r id v at alone x new hs out (standing_after s r id v at alone x, linked) in
       let knows_it = knows_after s r id v at alone x w more refl refl knows.room (λ slot ne. refl) (let a = knows.sizes h.slot in omega arith) in
       let seen : SeenTake m v.base v (m.used part) = subst (λ (z : Founding V). SeenTake m z v (m.used part)) (sym (own_hand m k s r id v at alone).0)
       record { moment = standing_moment s r id v at alone (take h.slot) x new hs out w refl refl moves hand_is knows_it (makes_take s r id v at alone (m.used part) hold.0); used_is = ap (λ (y : Standing). y.used) hold.0 } in (
         w,
-        takes h.slot (Some part),
+        takes (value_at h.slot) (Some part),
         hold.1,
         stood s r id v at alone x new hs out w refl refl moves hand_is knows_it,
-        λ other there. let same : part ≡ other = rests_one part other (sym rests_there ∙ there) in (ap (λ (p : V). (held v (Moving (m.used p)), (h.slot, Some p) ∷ me.1)) same, subst (λ (p : V). SeenTake m v.base v (m.used p)) same seen),
+        λ other there. let same : part ≡ other = rests_one part other (sym rests_there ∙ there) in (ap (λ (p : V). (held v (Moving (m.used p)), (value_at h.slot, Some p) ∷ me.1)) same, subst (λ (p : V). SeenTake m v.base v (m.used p)) same seen),
       )
 
   -- an empty slot at home
-  empty_at : (c : Core) (hs : Homes V) (h : Hand V) (x : Hold V) → IsOut x → HoldsAt m k.life c hs h x → (c.standing h.slot ≡ away (used_now m x)) × (get_elem? hs h.slot ≡ some (some None))
+  empty_at : (c : Core) (hs : Homes V) (h : Hand V) (x : Hold V) → IsOut x → HoldsAt m k.life c hs h x → (c.standing h.slot ≡ away (used_now m x)) × (get_elem? hs (value_at h.slot) ≡ some (some None))
   empty_at c hs h Vacant out x = x
   empty_at c hs h Filling out x = absurd out
   empty_at c hs h (Moving used) out x = absurd out
@@ -223,9 +223,9 @@ module _ {V : Type 0} (m : Meter V) (k : Founding V) where
 
   -- a step that changes no word, and the own slot alone
   module _ (s : St) (r : Holds m k s) (id : ℕ) (v : View V) (at : get_elem? s.views id ≡ some v) (alone : length v.hands ≡ 1) where
-    reheld : (x : Hold V) (h' : maybe.Option (Option V)) → HoldsAt m k.life r.core (set s.homes (hand v).slot h') (record (hand v) { hold = x }) x
-        → Holds m k record { words = set s.words (state_at (hand v).slot) (get_or s.words (state_at (hand v).slot) 0); homes = set s.homes (hand v).slot h'; views = set s.views id (held v x) }
-    reheld x h' is = let h = hand v in let o = own s r id v at alone in let w = held v x in let hs = set s.homes h.slot h' in let knows = r.known id v at in
+    reheld : (x : Hold V) (h' : maybe.Option (Option V)) → HoldsAt m k.life r.core (set s.homes (value_at (hand v).slot) h') (record (hand v) { hold = x }) x
+        → Holds m k record { words = set s.words (state_at (hand v).slot) (get_or s.words (state_at (hand v).slot) 0); homes = set s.homes (value_at (hand v).slot) h'; views = set s.views id (held v x) }
+    reheld x h' is = let h = hand v in let o = own s r id v at alone in let w = held v x in let hs = set s.homes (value_at h.slot) h' in let knows = r.known id v at in
         subst (λ (ws : List ℕ). Holds m k record { words = ws; homes = hs; views = set s.views id w }) (sym (set-get_or s.words (state_at h.slot) 0))
         (moved m k s r id v w h (record h { hold = x }) at (hands_are v.hands alone) refl refl refl refl r.core s.words hs
         record {
@@ -235,9 +235,9 @@ module _ {V : Type 0} (m : Meter V) (k : Founding V) where
           standing = λ slot ne. refl;
           used = omega arith;
           nodes = λ slot small ne. refl;
-          homes_same = λ slot ne. set_else s.homes h.slot slot h' ne;
+          homes_same = λ place ne. set_else s.homes (value_at h.slot) place h' ne;
           show = r.show;
-          slots = length-set s.homes h.slot h' ∙ r.slots;
+          slots = length-set s.homes (value_at h.slot) h' ∙ r.slots;
         }
         record { here = o.here; slot = o.slot; held = o.held; linked = o.linked; spare = o.spare; noted = o.noted; hold = is }
         record { seen = knows.seen; room = knows.room; pasts = knows.pasts; sizes = knows.sizes })
@@ -246,35 +246,35 @@ module _ {V : Type 0} (m : Meter V) (k : Founding V) where
       → Allows (Holds m k) slots id me (state_at (hand me.0).slot) (λ n. n) (claimed m (step slots (state_at (hand me.0).slot) 0 0 none) me)
   claims slots id me alone out s r _ at _ = let v = me.0 in let h = hand v in let o = own s r id v at alone in let hold = empty_at r.core s.homes h h.hold out o.hold in (
     held v (with_seat h.hold),
-    takes h.slot None,
+    takes (value_at h.slot) None,
     hold.1,
-    reheld s r id v at alone (with_seat h.hold) none (with_seat_at r.core s.homes (set s.homes h.slot none) h h.hold (with_seat h.hold) out o.hold),
+    reheld s r id v at alone (with_seat h.hold) none (with_seat_at r.core s.homes (set s.homes (value_at h.slot) none) h h.hold (with_seat h.hold) out o.hold),
     refl,
   )
 
-  pub empties : (slots id used : ℕ) (me : Sat V) (out : List (ℕ × Option V)) → length me.0.hands ≡ 1 → (hand me.0).linked ≡ true → (hand me.0).hold ≡ Moving used → me.1 ≡ ((hand me.0).slot, None) ∷ out
+  pub empties : (slots id used : ℕ) (me : Sat V) (out : List (ℕ × Option V)) → length me.0.hands ≡ 1 → (hand me.0).linked ≡ true → (hand me.0).hold ≡ Moving used → me.1 ≡ (value_at (hand me.0).slot, None) ∷ out
       → Allows (Holds m k) slots id me (state_at (hand me.0).slot) (λ n. n) (emptied (step slots (state_at (hand me.0).slot) 0 0 none) me)
   empties slots id used me out alone linked filling has s r _ at _ = let v = me.0 in let h = hand v in let o = own s r id v at alone in let hold = subst (λ (x : Hold V). HoldsAt m k.life r.core s.homes h x) filling o.hold in
-      let within : h.slot < length s.homes = (let a = r.slots in let b = o.slot in omega arith) in (
+      let within : value_at h.slot < length s.homes = (let a = r.slots in let b = o.slot in omega arith) in (
         held v (Away used),
         gives,
         tt,
         subst (λ (c : List (ℕ × Option V)). Holds m k (stepped s (state_at h.slot) (get_or s.words (state_at h.slot) 0) id c (held v (Away used)) gives)) (sym has)
-            (reheld s r id v at alone (Away used) (some None) (hold.0, set_here s.homes h.slot (some None) within, linked)),
-        λ other rest is there. let same : ((h.slot, None) ∷ out) ≡ ((h.slot, None) ∷ rest) = sym has ∙ there in let q : out ≡ rest = cc in let p : used ≡ other = moving_one used other (sym filling ∙ is) in
+            (reheld s r id v at alone (Away used) (some None) (hold.0, set_here s.homes (value_at h.slot) (some None) within, linked)),
+        λ other rest is there. let same : ((value_at h.slot, None) ∷ out) ≡ ((value_at h.slot, None) ∷ rest) = sym has ∙ there in let q : out ≡ rest = cc in let p : used ≡ other = moving_one used other (sym filling ∙ is) in
             subst (λ (c : List (ℕ × Option V)). ◌≡◌ {A = Sat V} (held v (Away used), rest_of_slots c) (held v (Away other), rest)) (sym has) (λ i. (held v (Away (p i)), q i)),
       )
 
-  pub gives_slot : (slots id new : ℕ) (me : Sat V) (part : V) (out : List (ℕ × Option V)) → length me.0.hands ≡ 1 → me.1 ≡ ((hand me.0).slot, Some part) ∷ out → IsWithSeat (hand me.0).hold → used_now m (hand me.0).hold ≤ m.used part
+  pub gives_slot : (slots id new : ℕ) (me : Sat V) (part : V) (out : List (ℕ × Option V)) → length me.0.hands ≡ 1 → me.1 ≡ (value_at (hand me.0).slot, Some part) ∷ out → IsWithSeat (hand me.0).hold → used_now m (hand me.0).hold ≤ m.used part
       → Fits m k.life (hand me.0).who part → new ≡ 2 * m.used part + 1
       → Allows (Holds m k) slots id me (state_at (hand me.0).slot) (λ _. new) (λ _. gave m (step slots (state_at (hand me.0).slot) new 0 none) me new)
   gives_slot slots id new me part out alone has with more fits is s r _ at _ = let v = me.0 in let h = hand v in let o = own s r id v at alone in
-      let x = rests (m.used part) in let w = settled m v part in let hs = set s.homes h.slot (some (Some part)) in let knows = r.known id v at in
+      let x = rests (m.used part) in let w = settled m v part in let hs = set s.homes (value_at h.slot) (some (Some part)) in let knows = r.known id v at in
       let was = away_now r.core s.homes h h.hold with o.hold in let grown : (r.core.standing h.slot).used ≤ m.used part = (let e = ap (λ (y : Standing). y.used) was in omega arith) in
-      let within : h.slot < length s.homes = (let a = r.slots in let b = o.slot in omega arith) in
+      let within : value_at h.slot < length s.homes = (let a = r.slots in let b = o.slot in omega arith) in
       let room : h.slot < length v.sizes = (let a = knows.room in let b = o.slot in omega arith) in
-      let moves = restated s r id v at alone x new hs is grown (length-set s.homes h.slot (some (Some part)) ∙ r.slots) (λ slot ne. set_else s.homes h.slot slot (some (Some part)) ne) in
-      let hand_is = rehold s r id v at alone x new hs (Rests part) (standing_after s r id v at alone x, set_here s.homes h.slot (some (Some part)) within, fits) in
+      let moves = restated s r id v at alone x new hs is grown (length-set s.homes (value_at h.slot) (some (Some part)) ∙ r.slots) (λ place ne. set_else s.homes (value_at h.slot) place (some (Some part)) ne) in
+      let hand_is = rehold s r id v at alone x new hs (Rests part) (standing_after s r id v at alone x, set_here s.homes (value_at h.slot) (some (Some part)) within, fits) in
       let knows_it = knows_after s r id v at alone x w grown refl refl (length-set v.sizes h.slot (m.used part) ∙ knows.room) (λ slot ne. get_or-set_other v.sizes h.slot slot (m.used part) 0 ne) (let e = get_or-set_same v.sizes h.slot (m.used part) 0 room in omega arith) in
       let seen : SeenGive m v.base v part = subst (λ (z : Founding V). SeenGive m z v part) (sym (own_hand m k s r id v at alone).0)
       record { moment = standing_moment s r id v at alone (give h.slot (m.used part)) x new hs (Rests part) w refl refl moves hand_is knows_it (makes_give s r id v at alone (used_now m h.hold) (m.used part) was more) } in (
@@ -282,7 +282,7 @@ module _ {V : Type 0} (m : Meter V) (k : Founding V) where
         gives,
         tt,
         subst (λ (c : List (ℕ × Option V)). Holds m k (stepped s (state_at h.slot) new id c w gives)) (sym has) (stood s r id v at alone x new hs (Rests part) w refl refl moves hand_is knows_it),
-        λ other rest there. let same : ((h.slot, Some part) ∷ out) ≡ ((h.slot, Some other) ∷ rest) = sym has ∙ there in let heads : ◌≡◌ {A = ℕ × Option V} (h.slot, Some part) (h.slot, Some other) = cc in let inner : Some part ≡ Some other = ap (λ (z : ℕ × Option V). z.1) heads in let p : part ≡ other = cc in let q : out ≡ rest = cc in (
+        λ other rest there. let same : ((value_at h.slot, Some part) ∷ out) ≡ ((value_at h.slot, Some other) ∷ rest) = sym has ∙ there in let heads : ◌≡◌ {A = ℕ × Option V} (value_at h.slot, Some part) (value_at h.slot, Some other) = cc in let inner : Some part ≡ Some other = ap (λ (z : ℕ × Option V). z.1) heads in let p : part ≡ other = cc in let q : out ≡ rest = cc in (
           subst (λ (c : List (ℕ × Option V)). ◌≡◌ {A = Sat V} (w, rest_of_slots c) (settled m v other, rest)) (sym has) (λ i. (settled m v (p i), q i)),
           let seen = knows.sizes h.slot in let e = ap m.used p in omega arith,
           subst (λ (z : V). SeenGive m v.base v z) p seen,

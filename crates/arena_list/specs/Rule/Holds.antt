@@ -13,7 +13,7 @@ use Rattle.arena_list.specs.declared.for_clauses.view.Hand.{Hand}
 use Rattle.arena_list.specs.declared.for_clauses.view.View.{View}
 use Rattle.arena_list.specs.Words.Nodes.{node, node_word, Begins}
 use Rattle.arena_list.specs.Words.Core.{Core, rests, away, IsListed, CallersDiffer, slot_count}
-use Rattle.arena_list.specs.Words.Written.{Show, node_at}
+use Rattle.arena_list.specs.Words.Written.{Show, node_at, value_at, value_count}
 use Rattle.arena_list.specs.Rule.Founded.{Meter, Fits, node_of, others_of}
 
 -- a number of each view, added up
@@ -28,11 +28,11 @@ module _ {V : Type 0} where
   -- Where the value of a slot is. A value at home has its caller as owner, this list's life and the used sum that the state shows.
   -- Only the value of a slot of the list is out, but for the first filling of each slot. A slot is with its seat within a call alone
   abbrev pub HoldsAt : Meter V → ℕ → Core → List (maybe.Option (Option V)) → Hand V → Hold V → Type 0
-  HoldsAt m life c homes h Vacant = (c.standing h.slot ≡ away 0) × (get_elem? homes h.slot ≡ some (some None))
+  HoldsAt m life c homes h Vacant = (c.standing h.slot ≡ away 0) × (get_elem? homes (value_at h.slot) ≡ some (some None))
   HoldsAt m life c homes h Filling = c.standing h.slot ≡ away 0
   HoldsAt m life c homes h (Moving used) = (c.standing h.slot ≡ away used) × (h.linked ≡ true)
-  HoldsAt m life c homes h (Away used) = (c.standing h.slot ≡ away used) × (get_elem? homes h.slot ≡ some (some None)) × (h.linked ≡ true)
-  HoldsAt m life c homes h (Rests part) = (c.standing h.slot ≡ rests (m.used part)) × (get_elem? homes h.slot ≡ some (some (Some part))) × Fits m life h.who part
+  HoldsAt m life c homes h (Away used) = (c.standing h.slot ≡ away used) × (get_elem? homes (value_at h.slot) ≡ some (some None)) × (h.linked ≡ true)
+  HoldsAt m life c homes h (Rests part) = (c.standing h.slot ≡ rests (m.used part)) × (get_elem? homes (value_at h.slot) ≡ some (some (Some part))) × Fits m life h.who part
 
   -- A hand: its caller is here and nowhere else, its slot is this caller's alone, in the list or outside it
   pub record IsHand (m : Meter V) (life : ℕ) (c : Core) (words : List ℕ) (homes : List (maybe.Option (Option V))) (holder : ℕ → maybe.Option ℕ) (place : ℕ → maybe.Option (ℕ × ℕ)) (j i : ℕ) (h : Hand V) : Type 0 where
@@ -58,7 +58,7 @@ module _ {V : Type 0} where
     pub no_seat : place e.caller ≡ none
     pub standing : c.standing e.slot ≡ rests (m.used e.part)
     pub fits : Fits m life e.caller e.part
-    pub elsewhere : get_elem? homes e.slot ≡ some (some None)
+    pub elsewhere : get_elem? homes (value_at e.slot) ≡ some (some None)
     pub linked : (k : ℕ) × (get_elem? c.joined k ≡ some (node e.slot e.caller))
 
   -- the caller stands in a view, with this slot
@@ -74,7 +74,7 @@ module _ {V : Type 0} where
     pub holder : ℕ → maybe.Option ℕ
     pub place : ℕ → maybe.Option (ℕ × ℕ)
     pub show : Show core s.words
-    pub slots : length s.homes ≡ slot_count
+    pub slots : length s.homes ≡ value_count
     pub listed : (i : ℕ) (n : Node) → get_elem? core.joined i ≡ some n → IsListed holder n
     pub callers : CallersDiffer core.joined
     -- the list only grew since it was made
@@ -83,7 +83,8 @@ module _ {V : Type 0} where
     pub known : (j : ℕ) (v : View V) → get_elem? s.views j ≡ some v → Knows core v
     pub wards : (i : ℕ) (e : Entry V) → get_elem? (others_of k.linked.items k.callers.items) i ≡ some e → IsWard m k.life core s.homes holder place e
     pub traced : (slot who : ℕ) → holder slot ≡ some who → Stands s.views slot who ⊎ IsOther (others_of k.linked.items k.callers.items) slot who
-    pub idle : (slot : ℕ) → slot < slot_count → holder slot ≡ none → get_elem? s.homes slot ≡ some (some None)
+    -- where no caller's value lies there is none
+    pub idle : (place : ℕ) → place < value_count → ((slot : ℕ) → place ≡ value_at slot → holder slot ≡ none) → get_elem? s.homes place ≡ some (some None)
     -- each caller that has a seat stands in a view
     pub stand : (i who : ℕ) → get_elem? k.callers.items i ≡ some who → (slot : ℕ) × Stands s.views slot who
     pub counted : total hand_count s.views ≡ length k.callers.items

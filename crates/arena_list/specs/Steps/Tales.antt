@@ -10,7 +10,7 @@ use Rattle.arena_list.specs.declared.for_clauses.view.Hand.{Hand}
 use Rattle.arena_list.specs.declared.for_clauses.view.View.{View}
 use Rattle.arena_list.specs.Words.Nodes.{before, head_of, node_word, Begins, HasNode, LacksNode}
 use Rattle.arena_list.specs.Words.Core.{CallersDiffer, slot_count}
-use Rattle.arena_list.specs.Words.Written.{node_at, state_at}
+use Rattle.arena_list.specs.Words.Written.{node_at, state_at, value_at}
 use Rattle.arena_list.specs.Rule.Views.{hand}
 use Rattle.arena_list.specs.Rule.Founded.{Meter}
 use Rattle.arena_list.specs.Steps.Moments.{SeenList, SeenJoin, SeenTake, SeenGive, SeenSize}
@@ -60,17 +60,17 @@ module _ {V : Type 0} where
       × (r ≢ st.first → saw_head m st me r me' × (length me.0.seen < length me'.0.seen))
 
   abbrev pub took : Meter V → Step (Option V) → Sat V → ℕ → Sat V → Type 0
-  took m st me r me' = (part : V) → (hand me.0).hold ≡ Rests part → (me' ≡ (held me.0 (Moving (m.used part)), ((hand me.0).slot, Some part) ∷ me.1)) × SeenTake m me.0.base me.0 (m.used part)
+  took m st me r me' = (part : V) → (hand me.0).hold ≡ Rests part → (me' ≡ (held me.0 (Moving (m.used part)), (value_at (hand me.0).slot, Some part) ∷ me.1)) × SeenTake m me.0.base me.0 (m.used part)
 
   -- the emptied slot went home
   abbrev pub emptied : Step (Option V) → Sat V → ℕ → Sat V → Type 0
-  emptied st me r me' = (used : ℕ) (out : List (ℕ × Option V)) → (hand me.0).hold ≡ Moving used → me.1 ≡ ((hand me.0).slot, None) ∷ out → me' ≡ (held me.0 (Away used), out)
+  emptied st me r me' = (used : ℕ) (out : List (ℕ × Option V)) → (hand me.0).hold ≡ Moving used → me.1 ≡ (value_at (hand me.0).slot, None) ∷ out → me' ≡ (held me.0 (Away used), out)
 
   abbrev pub claimed : Meter V → Step (Option V) → Sat V → ℕ → Sat V → Type 0
-  claimed m st me r me' = me' ≡ (held me.0 (with_seat (hand me.0).hold), ((hand me.0).slot, None) ∷ me.1)
+  claimed m st me r me' = me' ≡ (held me.0 (with_seat (hand me.0).hold), (value_at (hand me.0).slot, None) ∷ me.1)
 
   abbrev pub gave : Meter V → Step (Option V) → Sat V → ℕ → Sat V → Type 0
-  gave m st me r me' = (part : V) (out : List (ℕ × Option V)) → me.1 ≡ ((hand me.0).slot, Some part) ∷ out → (me' ≡ (settled m me.0 part, out)) × (slice_index me.0.sizes (hand me.0).slot ≤ m.used part) × SeenGive m me.0.base me.0 part
+  gave m st me r me' = (part : V) (out : List (ℕ × Option V)) → me.1 ≡ (value_at (hand me.0).slot, Some part) ∷ out → (me' ≡ (settled m me.0 part, out)) × (slice_index me.0.sizes (hand me.0).slot ≤ m.used part) × SeenGive m me.0.base me.0 part
 
   abbrev pub saw_size : Meter V → Step (Option V) → Sat V → ℕ → Sat V → Type 0
   saw_size m st me r me' = (slot : ℕ) → st.word ≡ state_at slot → (me' ≡ (sized me.0 slot (r / 2), me.1)) × (slice_index me.0.sizes slot ≤ r / 2) × (slice_index (set me.0.sizes slot (r / 2)) slot ≡ r / 2) × (slot ≡ (hand me.0).slot → r / 2 ≡ used_now m (hand me.0).hold) × SeenSize m me.0.base me.0 slot (r / 2)

@@ -1,5 +1,5 @@
--- The words of the list, and the core that they show.
--- Word 0 is the head, word 8 + k the node of the slot k, and word 80 + 8 * k its state, 64 bytes after that of the slot before. The words between aren't used.
+-- The words of the list, the core that they show, and where the values lie.
+-- Word 0 is the head, word 8 + k the node of the slot k, and word 80 + 16 * k its state, 128 bytes after that of the slot before. The words between aren't used.
 use Rattle.std.specs.Prelude.{◌≡◌, ℕ, ◌+◌, ◌*◌, ◌<◌, Bool, true, false, List, length, slice_index}
 use mathlib.Core.Option.{some}
 use lib.ListN.{get_elem?}
@@ -11,11 +11,18 @@ abbrev pub node_at : ℕ → ℕ
 node_at slot = 8 + slot
 
 abbrev pub state_at : ℕ → ℕ
-state_at slot = 80 + 8 * slot
+state_at slot = 80 + 16 * slot
 
 -- how many words there are: the state of the last slot has a line of its own, too
 abbrev pub word_count : ℕ
 word_count = state_at slot_count
+
+-- the place of a slot's value in the table: of two values of 16 bytes no two lie within 128 bytes. The places between are empty
+abbrev pub value_at : ℕ → ℕ
+value_at slot = slot * 8
+
+abbrev pub value_count : ℕ
+value_count = value_at slot_count
 
 -- each slot is one of the list's
 abbrev pub AreSmall : List Node → Type 0

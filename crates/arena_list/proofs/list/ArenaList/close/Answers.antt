@@ -7,8 +7,12 @@ use Rattle.arena_list.specs.Rule.Views.{shown}
 use Rattle.arena_list.specs.Calls.Seats.{view, founding_of, wards_of}
 use Rattle.arena_list.specs.Closing.Closed.{used_sum, AreApart, AreLinked, AreSpares, slots_of}
 use Rattle.arena_list.proofs.Closing.Ending.{slots_within}
-use Rattle.arena_list.proofs.Closing.Ended.{others_vacant, ended}
+use Rattle.arena_list.proofs.Closing.Ended.{between_empty, others_vacant, ended}
 use Rattle.arena_list.proofs.list.ArenaList.close.Goals as goal
+
+pub empty-requires-clause-between : goal.empty-requires-clause-between
+empty-requires-clause-between g c = between_empty g.row.V.coded (meter g.V.Part.owner_of g.V.Part.life_of g.V.Part.used_of) c.args.self.table.shared.key c.gather-all.result.id c.gather-all.result.me.0 (slots_items c.close_with-closed.result.words) (slots_items c.close_with-closed.result.slots) c.close_with-closed.ensures.values.2
+    (let n = c.close_with-closed.ensures.counts.1 in let s = c.args.self.sized.1 in let o = c.close_with-closed.result.slots.ok.0 in omega arith)
 
 pub place_others-requires-clause-vacant : goal.place_others-requires-clause-vacant
 place_others-requires-clause-vacant g c = others_vacant g.row.V.coded (meter g.V.Part.owner_of g.V.Part.life_of g.V.Part.used_of) c.args.self.table.shared.key c.gather-all.result.id c.gather-all.result.me.0 (slots_items c.close_with-closed.result.words) (slots_items c.close_with-closed.result.slots) c.empty.new.parts.items c.args.seats.items
