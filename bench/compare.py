@@ -15,7 +15,7 @@ import tempfile
 from pathlib import Path
 
 sys.dont_write_bytecode = True
-from measure import BENCH, HUGE, best, program, timed
+from measure import BENCH, HUGE, HUGE_FOR_ALL, best, program, timed
 from shapes import SHAPES
 
 NOT_YET = 9
@@ -84,7 +84,8 @@ def main():
             file = f"{folder}/frames"
             subprocess.run([sys.executable, BENCH / "shapes.py", name, given.seed, str(int(given.mb * 1e6)), file], check=True)
             for workers in given.workers.split(","):
-                for pages, more in ("small", {}), ("huge", HUGE):
+                huge = HUGE if workers == "1" else HUGE_FOR_ALL
+                for pages, more in ("small", {}), ("huge", huge):
                     rows = rows_of(ours, theirs, SHAPES[name].type, file, workers)
                     print(line(name, workers, pages, os.path.getsize(file), measure(rows, more, given.runs, folder)), flush=True)
 

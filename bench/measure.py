@@ -9,8 +9,9 @@ from pathlib import Path
 
 BENCH = Path(__file__).resolve().parent
 TOP = BENCH.parent
-# How ./arena lets large vectors use huge pages; a row of small pages is measured without it.
+# How ./arena lets large vectors use huge pages, and those of several workers; a row of small pages is measured without it.
 HUGE = {"GLIBC_TUNABLES": "glibc.malloc.hugetlb=1"}
+HUGE_FOR_ALL = {"GLIBC_TUNABLES": "glibc.malloc.hugetlb=1:glibc.malloc.top_pad=16777216"}
 NOT_BUILT = 125
 
 Timed = namedtuple("Timed", "seconds processor status peak_mib")
